@@ -1,0 +1,32 @@
+-- Laws of what a lent part holds.
+--     copied-none, copied-more     a copy that has stored i octets, and stores one more
+--     copied-end                   a copy that has gone as far as either list goes
+use mathlib.Core.Path.{_≡_, refl, sym, ap, _∙_}
+use mathlib.Core.List.{List, [], _∷_, _++_, append-nil}
+use Prim.Native.Nat.{ℕ, suc, _+_, _<_, _≤_}
+use native.Mathlib.Numerals.{add-one}
+use native.Mathlib.Omega.{arith}
+use lib.ListN.{length, getD, take, drop, set, drop-of-length-le}
+use lib.Seq.{take-suc, drop-cons, append-snoc, set-at, length-take-le, take-all}
+use Rattle.octets.specs.Parts.{copied}
+
+pub copied-more : (d s : List ℕ) (i : ℕ) → i < length d → i < length s
+    → set (take i s ++ drop i d) i (getD s i 0) ≡ take (i + 1) s ++ drop (i + 1) d
+copied-more d s i hd hs =
+    let hle : i ≤ length s = omega arith in
+    rw (add-one, drop-cons d i 0 hd, take-suc s i 0 hs, set-at (take i s) (getD d i 0) (drop (suc i) d) (getD s i 0) i (length-take-le i s hle))
+    (sym (append-snoc (take i s) (getD s i 0) (drop (suc i) d)))
+
+pub copied-source-end : (d s : List ℕ) (i : ℕ) → i ≤ length d → i ≤ length s → length s ≤ i → take i s ++ drop i d ≡ copied d s
+unfolding copied
+copied-source-end d s i hd hs he =
+    let e : length s ≡ i = omega arith in
+    let hsd : length s ≤ length d = omega arith in
+    rw (e, take-all i s he, take-all (length d) s hsd)
+
+pub copied-part-end : (d s : List ℕ) (i : ℕ) → i ≤ length d → i ≤ length s → length d ≤ i → take i s ++ drop i d ≡ copied d s
+unfolding copied
+copied-part-end d s i hd hs he =
+    let e : i ≡ length d = omega arith in
+    let hds : length d ≤ length s = omega arith in
+    rw (e, drop-of-length-le d {i = length d} (omega arith), drop-of-length-le d {i = length s} hds)

@@ -1,0 +1,61 @@
+// Octets and the numbers made of them: the one place where octets of a lent slice become numbers, and where lent parts are filled.
+ghost use mathlib.Core.Path.{_≡_};
+ghost use lib.ListN.{length, getD, replicate};
+ghost use Rattle.octets.specs.Numbers.{le2, le4};
+ghost use Rattle.octets.specs.Parts.{copied};
+
+// The octet at `i`; past the end it counts as 0.
+pub fn octet(s: &[u8], i: usize) -> u8
+    ensures { λ r. ⌜ r ≡ getD (now (s .entry)) i 0 ⌝ }
+{
+    if i < s.len() {
+        return s[i];
+    }
+    0
+}
+
+// A number of 2 octets, low octet first.
+pub fn le2(a: u8, b: u8) -> u16
+    ensures { λ r. ⌜ r ≡ le2 a b ⌝ }
+{
+    (a as u16) + 256 * (b as u16)
+}
+
+// A number of 4 octets, low octet first.
+pub fn le4(a: u8, b: u8, c: u8, d: u8) -> u32
+    ensures { λ r. ⌜ r ≡ le4 a b c d ⌝ }
+{
+    (a as u32) + 256 * (b as u32) + 65536 * (c as u32) + 16777216 * (d as u32)
+}
+
+// Every octet of a lent part becomes `v`.
+pub fn fill(d: &mut [u8], v: u8)
+    ensures { λ _. ⌜ now (d .exit) ≡ replicate (length (now (d .entry))) v ⌝ }
+{
+    let mut i = 0;
+    while i < d.len() {
+        d[i] = v;
+        i += 1;
+    }
+}
+
+// Every octet of a lent part becomes 0.
+pub fn zero(d: &mut [u8])
+    ensures { λ _. ⌜ now (d .exit) ≡ replicate (length (now (d .entry))) 0 ⌝ }
+{
+    fill(d, 0);
+}
+
+// The octets of `s` enter the lent part at its front, as far as it goes; the octets behind them stay.
+pub fn copy(d: &mut [u8], s: &[u8])
+    ensures { λ _. ⌜ now (d .exit) ≡ copied (now (d .entry)) (now (s .entry)) ⌝ }
+{
+    let mut i = 0;
+    while i < d.len() {
+        if s.len() <= i {
+            return;
+        }
+        d[i] = s[i];
+        i += 1;
+    }
+}
