@@ -1,3 +1,4 @@
 -- The laws of the definitions on octets.
 pub mod Pick
+pub mod Numbers
 pub mod Parts

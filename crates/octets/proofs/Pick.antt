@@ -1,22 +1,49 @@
--- Laws of the shut pick: what a test that held, or failed, makes of it.
+-- Laws of the shut pick: what it gives where its test held and where it failed, for a test known as a Bool and for one known as a fact of numbers.
+--     pick-yes, pick-no                    the test's value is known
+--     pick-lt, pick-ge, pick-le, pick-gt   a test by ltb or leb
+--     pick-eq, pick-ne                     a test by eqb
+--     pick-both                            what both arms have, the picked one has
+--     passed                               a pick whose first arm is not what came out: its test failed, and the second arm came out
 use mathlib.Core.Bool.{Bool, true, false}
-use mathlib.Core.Path.{_≡_, refl, sym, ap, _∙_, subst}
+use mathlib.Core.Path.{_≡_, refl}
 use Prim.Native.Nat.{ℕ, _<_, _≤_}
 use borrow.Author.Tests.{lt-ltb, le-ltb, le-leb, lt-leb, eq-eqb, ne-eqb}
 use lib.Dec.{ltb, leb, eqb}
 use Rattle.octets.specs.Pick.{pick}
 
 module _ {ℓ} {A : Type ℓ} where
-  pub pick-yes : (b : Bool) (x y : A) → b ≡ true → pick b x y ≡ x
+  pub pick-yes : {b : Bool} (x y : A) → b ≡ true → pick b x y ≡ x
   unfolding pick
-  pick-yes b x y e = rw e
+  pick-yes x y e = rw e
 
-  pub pick-no : (b : Bool) (x y : A) → b ≡ false → pick b x y ≡ y
+  pub pick-no : {b : Bool} (x y : A) → b ≡ false → pick b x y ≡ y
   unfolding pick
-  pick-no b x y e = rw e
+  pick-no x y e = rw e
 
-  -- what both arms have, the picked one has
-  pub pick-both : (P : A → Type 0) (b : Bool) (x y : A) → P x → P y → P (pick b x y)
+  pub pick-lt : {m n : ℕ} (x y : A) → m < n → pick (ltb m n) x y ≡ x
+  pick-lt {m} {n} x y h = pick-yes x y (lt-ltb m n h)
+
+  pub pick-ge : {m n : ℕ} (x y : A) → n ≤ m → pick (ltb m n) x y ≡ y
+  pick-ge {m} {n} x y h = pick-no x y (le-ltb m n h)
+
+  pub pick-le : {m n : ℕ} (x y : A) → m ≤ n → pick (leb m n) x y ≡ x
+  pick-le {m} {n} x y h = pick-yes x y (le-leb m n h)
+
+  pub pick-gt : {m n : ℕ} (x y : A) → n < m → pick (leb m n) x y ≡ y
+  pick-gt {m} {n} x y h = pick-no x y (lt-leb m n h)
+
+  pub pick-eq : {m n : ℕ} (x y : A) → m ≡ n → pick (eqb m n) x y ≡ x
+  pick-eq {m} {n} x y h = pick-yes x y (eq-eqb m n h)
+
+  pub pick-ne : {m n : ℕ} (x y : A) → (m ≡ n → ⊥) → pick (eqb m n) x y ≡ y
+  pick-ne {m} {n} x y h = pick-no x y (ne-eqb m n h)
+
+  pub pick-both : (P : A → Type 0) (b : Bool) {x y : A} → P x → P y → P (pick b x y)
   unfolding pick
-  pick-both P true x y p q = p
-  pick-both P false x y p q = q
+  pick-both P true p q = p
+  pick-both P false p q = q
+
+  pub passed : (b : Bool) {x y z : A} → (x ≡ z → ⊥) → pick b x y ≡ z → (b ≡ false) × (y ≡ z)
+  unfolding pick
+  passed true n e = absurd (n e)
+  passed false n e = (refl, e)

@@ -1,0 +1,6 @@
+-- The laws of the regions.
+pub mod Bounds
+pub mod Listed
+pub mod Turns
+pub mod Reach
+pub mod Places

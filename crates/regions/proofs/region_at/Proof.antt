@@ -1,0 +1,27 @@
+-- `regions::region_at` meets its contract: the record's octets, counted from its own place.
+use Prim.Native.Nat.{_+_, _*_}
+use mathlib.Core.Path.{sym, _∙_}
+use borrow.Author.Needs.{needs}
+use lib.ListN.{getD}
+use Rattle.octets.proofs.Numbers.{le4At-plus}
+use Rattle.regions.specs.Region.{regionFrom}
+use Rattle.regions.proofs.region_at.Statement.{statement}
+use Rattle.regions.proofs.region_at.Tie as tie
+
+returns-2 : tie.Need-returns-2
+unfolding regionFrom
+returns-2 c =
+    let a = c .before .before .before .before .before .before .before .before .before .before .before .before .before .args in
+    let at = 4 + 10 * a .i in
+    λ i. record {
+      start = (c .before .before .before .before .before .before .le4 .ensures ∙ sym (le4At-plus (a .sheet .now) at 1)) i;
+      length = (c .before .le42 .ensures ∙ sym (le4At-plus (a .sheet .now) at 5)) i;
+      rights = getD (a .sheet .now) (at + 9) 0 }
+
+pub region-at-spec : {M : Type 1} → statement M
+region-at-spec =
+    tie.close
+    (tie.spec (λ c. search needs) (λ c. search needs) (λ c. search needs) (λ c. search needs) (λ c. search needs) (λ c κs. search needs) (λ c. search needs)
+    (λ c. search needs) (λ c. search needs) (λ c. search needs) (λ c. search needs) (λ c. search needs) (λ c. search needs) (λ c. search needs)
+    (λ c. search needs) (λ c κs. search needs) (λ c. search needs) (λ c. search needs) (λ c. search needs) (λ c. search needs) (λ c. search needs)
+    (λ c. search needs) (λ c. search needs) (λ c. search needs) (λ c κs. search needs) (λ c. search needs) (λ c. search needs) returns-2)

@@ -1,0 +1,35 @@
+-- What is found in the regions. Memory is the regions one after another in sheet order; an address is not a place in the memory.
+use Prim.Native.Nat.{ℕ, zero, suc, _+_, _-_}
+use mathlib.Core.Bool.{Bool, true, false}
+use mathlib.Core.List.{List, [], _∷_}
+use lib.Dec.{eqb}
+use Rattle.octets.specs.Pick.{pick}
+use Rattle.regions.specs.Region.{holdsOf, givesOf}
+use Rattle.regions.specs.declared.Region.{Region}
+use Rattle.regions.specs.declared.Right.{Right}
+use Rattle.regions.specs.declared.search.Spot.{Spot}
+use Rattle.regions.specs.declared.search.Spot.the-variants.{At, Nowhere}
+
+-- the octets of memory that the regions take
+unfoldable pub totalOf : List Region → ℕ
+totalOf [] = 0
+totalOf (r ∷ rs) = r .length + totalOf rs
+
+-- the memory place and the rights of the octet at an address, where the first of the regions begins at place `base`
+unfoldable pub spotOf : List Region → ℕ → ℕ → Spot
+spotOf [] base a = Nowhere
+spotOf (r ∷ rs) base a = pick (holdsOf r a) (At (base + (a - r .start)) (r .rights)) (spotOf rs (base + r .length) a)
+
+-- whether the octet at an address has a right: the regions are searched, and the one that has the octet decides
+unfoldable pub grantsOf : List Region → Right → ℕ → Bool
+grantsOf [] w a = false
+grantsOf (r ∷ rs) w a = pick (holdsOf r a) (givesOf (r .rights) w) (grantsOf rs w a)
+
+-- how many of n octets from an address on come before the first that lacks the right; n where none lacks it
+unfoldable pub beforeOf : List Region → Right → ℕ → ℕ → ℕ
+beforeOf rs w a zero = 0
+beforeOf rs w a (suc n) = pick (grantsOf rs w a) (suc (beforeOf rs w (suc a) n)) 0
+
+-- whether all n octets from an address on have the right; with Mapped, whether the span lies wholly in regions
+abbrev pub spanHas : List Region → Right → ℕ → ℕ → Bool
+spanHas rs w a n = eqb (beforeOf rs w a n) n

@@ -1,0 +1,69 @@
+// The regions of a sheet, read where the caller holds the sheet: nothing is copied, and nothing here knows any other record.
+// A virtual address is a u32, or a u64 where one past the last address must not wrap; a place is an index into the memory.
+pub mod search; // search.rt: one octet's place and rights, and the searches over a span
+ghost use mathlib.Core.Path.{_≡_};
+ghost use Prim.Native.Nat.{_<_};
+ghost use Rattle.regions.specs.Region.{regionAt, regionFrom, holdsOf, givesOf};
+
+// What a region record says behind its kind octet.
+pub struct Region {
+    pub start: u32,
+    pub length: u32,
+    pub rights: u8,
+}
+
+// What can be asked of an octet: that a region has it at all, and the three rights.
+pub enum Right {
+    Mapped,
+    Read,
+    WriteAsync,
+    WriteSync,
+}
+
+// Region `i` of a sheet; an octet past the sheet's end counts as 0.
+pub fn region_at(sheet: &[u8], i: u8) -> Region
+    ensures { λ r. ⌜ r ≡ regionAt (now (sheet .entry)) i ⌝ }
+{
+    let at = 4 + 10 * (i as usize);
+    if sheet.len() < at + 10 {
+        return cut_region(sheet, 4 + 10 * (i as u32));
+    }
+    Region {
+        start: octets::le4(sheet[at + 1], sheet[at + 2], sheet[at + 3], sheet[at + 4]),
+        length: octets::le4(sheet[at + 5], sheet[at + 6], sheet[at + 7], sheet[at + 8]),
+        rights: sheet[at + 9],
+    }
+}
+
+// The same where the sheet may end before the record does: apart, so that the way above needs one test for a record.
+fn cut_region(sheet: &[u8], at: u32) -> Region
+    requires { ⌜ at < 4096 ⌝ }
+    ensures { λ r. ⌜ r ≡ regionFrom (now (sheet .entry)) at ⌝ }
+{
+    Region {
+        start: octets::le4_at(sheet, at + 1),
+        length: octets::le4_at(sheet, at + 5),
+        rights: octets::octet(sheet, at as usize + 9),
+    }
+}
+
+// Whether a region has the octet at an address.
+pub fn holds(region: Region, address: u64) -> bool
+    ensures { λ r. ⌜ r ≡ holdsOf region address ⌝ }
+{
+    let start = region.start as u64;
+    let length = region.length as u64;
+    (start <= address) & (address < start + length)
+}
+
+// Whether a rights octet gives the right.
+pub fn gives(rights: u8, right: Right) -> bool
+    ensures { λ r. ⌜ r ≡ givesOf rights right ⌝ }
+{
+    match right {
+        Right::Mapped => true,
+        Right::Read => rights % 2 == 1,
+        Right::WriteAsync => rights / 2 % 2 == 1,
+        Right::WriteSync => rights / 4 % 2 == 1,
+    }
+}
