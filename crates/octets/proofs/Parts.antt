@@ -1,14 +1,17 @@
 -- Laws of what a lent part holds.
---     copied-none, copied-more     a copy that has stored i octets, and stores one more
---     copied-end                   a copy that has gone as far as either list goes
-use mathlib.Core.Path.{_≡_, refl, sym, ap, _∙_}
-use mathlib.Core.List.{List, [], _∷_, _++_, append-nil}
+--     copied-more                           a copy that has stored i octets, and stores one more
+--     copied-source-end, copied-part-end    a copy that has gone as far as either list goes
+--     zero-more, zero-stop, zero-end        the turns of a search for an octet that is not 0
+use mathlib.Core.Bool.{true, false}
+use mathlib.Core.Path.{_≡_, sym}
+use mathlib.Core.List.{List, _++_}
 use Prim.Native.Nat.{ℕ, suc, _+_, _<_, _≤_}
 use native.Mathlib.Numerals.{add-one}
 use native.Mathlib.Omega.{arith}
+use borrow.Author.Tests.{ne-eqb}
 use lib.ListN.{length, getD, take, drop, set, drop-of-length-le}
 use lib.Seq.{take-suc, drop-cons, append-snoc, set-at, length-take-le, take-all}
-use Rattle.octets.specs.Parts.{copied}
+use Rattle.octets.specs.Parts.{copied, allZero}
 
 pub copied-more : (d s : List ℕ) (i : ℕ) → i < length d → i < length s
     → set (take i s ++ drop i d) i (getD s i 0) ≡ take (i + 1) s ++ drop (i + 1) d
@@ -30,3 +33,16 @@ copied-part-end d s i hd hs he =
     let e : i ≡ length d = omega arith in
     let hds : length d ≤ length s = omega arith in
     rw (e, drop-of-length-le d {i = length d} (omega arith), drop-of-length-le d {i = length s} hds)
+
+module _ (s : List ℕ) (i : ℕ) where
+  pub zero-more : i < length s → getD s i 0 ≡ 0 → allZero (drop i s) ≡ allZero (drop (i + 1) s)
+  unfolding allZero
+  zero-more h e = rw (add-one, drop-cons s i 0 h, e)
+
+  pub zero-stop : i < length s → (getD s i 0 ≡ 0 → ⊥) → allZero (drop i s) ≡ false
+  unfolding allZero
+  zero-stop h n = rw (drop-cons s i 0 h, ne-eqb (getD s i 0) 0 n)
+
+  pub zero-end : length s ≤ i → allZero (drop i s) ≡ true
+  unfolding allZero
+  zero-end h = rw (drop-of-length-le s h)

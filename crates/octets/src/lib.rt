@@ -1,8 +1,8 @@
 // Octets and the numbers made of them: the one place where octets of a lent slice become numbers, and where lent parts are filled.
 ghost use mathlib.Core.Path.{_≡_};
 ghost use lib.ListN.{length, getD, replicate};
-ghost use Rattle.octets.specs.Numbers.{le2, le4, le4At};
-ghost use Rattle.octets.specs.Parts.{copied};
+ghost use Rattle.octets.specs.Numbers.{le2, le4, le2At, le4At};
+ghost use Rattle.octets.specs.Parts.{copied, allZero};
 
 // The octet at `i`; past the end it counts as 0.
 pub fn octet(s: &[u8], i: usize) -> u8
@@ -28,12 +28,34 @@ pub fn le4(a: u8, b: u8, c: u8, d: u8) -> u32
     (a as u32) + 256 * (b as u32) + 65536 * (c as u32) + 16777216 * (d as u32)
 }
 
+// The number of 2 octets at `i`; octets past the end count as 0.
+pub fn le2_at(s: &[u8], i: u32) -> u16
+    ensures { λ r. ⌜ r ≡ le2At (now (s .entry)) i ⌝ }
+{
+    let at = i as usize;
+    le2(octet(s, at), octet(s, at + 1))
+}
+
 // The number of 4 octets at `i`; octets past the end count as 0.
 pub fn le4_at(s: &[u8], i: u32) -> u32
     ensures { λ r. ⌜ r ≡ le4At (now (s .entry)) i ⌝ }
 {
     let at = i as usize;
     le4(octet(s, at), octet(s, at + 1), octet(s, at + 2), octet(s, at + 3))
+}
+
+// Whether every octet of a part is 0.
+pub fn zeros(s: &[u8]) -> bool
+    ensures { λ r. ⌜ r ≡ allZero (now (s .entry)) ⌝ }
+{
+    let mut i = 0;
+    while i < s.len() {
+        if s[i] != 0 {
+            return false;
+        }
+        i += 1;
+    }
+    true
 }
 
 // Every octet of a lent part becomes `v`.

@@ -2,7 +2,6 @@
 // A virtual address is a u32, or a u64 where one past the last address must not wrap; a place is an index into the memory.
 pub mod search; // search.rt: one octet's place and rights, and the searches over a span
 ghost use mathlib.Core.Path.{_≡_};
-ghost use Prim.Native.Nat.{_<_};
 ghost use Rattle.regions.specs.Region.{regionAt, regionFrom, holdsOf, givesOf};
 
 // What a region record says behind its kind octet.
@@ -26,7 +25,7 @@ pub fn region_at(sheet: &[u8], i: u8) -> Region
 {
     let at = 4 + 10 * (i as usize);
     if sheet.len() < at + 10 {
-        return cut_region(sheet, 4 + 10 * (i as u32));
+        return region_from(sheet, 4 + 10 * (i as u16));
     }
     Region {
         start: octets::le4(sheet[at + 1], sheet[at + 2], sheet[at + 3], sheet[at + 4]),
@@ -35,14 +34,13 @@ pub fn region_at(sheet: &[u8], i: u8) -> Region
     }
 }
 
-// The same where the sheet may end before the record does: apart, so that the way above needs one test for a record.
-fn cut_region(sheet: &[u8], at: u32) -> Region
-    requires { ⌜ at < 4096 ⌝ }
+// The region record whose kind octet stands at `at`, octet by octet: the way for a record that the sheet's end may cut.
+pub fn region_from(sheet: &[u8], at: u16) -> Region
     ensures { λ r. ⌜ r ≡ regionFrom (now (sheet .entry)) at ⌝ }
 {
     Region {
-        start: octets::le4_at(sheet, at + 1),
-        length: octets::le4_at(sheet, at + 5),
+        start: octets::le4_at(sheet, at as u32 + 1),
+        length: octets::le4_at(sheet, at as u32 + 5),
         rights: octets::octet(sheet, at as usize + 9),
     }
 }
