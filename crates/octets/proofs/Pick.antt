@@ -2,10 +2,11 @@
 --     pick-yes, pick-no                    the test's value is known
 --     pick-lt, pick-ge, pick-le, pick-gt   a test by ltb or leb
 --     pick-eq, pick-ne                     a test by eqb
+--     pick-key                             a test by eqb on a number that is known to be another
 --     pick-both                            what both arms have, the picked one has
 --     passed                               a pick whose first arm is not what came out: its test failed, and the second arm came out
 use mathlib.Core.Bool.{Bool, true, false}
-use mathlib.Core.Path.{_≡_, refl}
+use mathlib.Core.Path.{_≡_, refl, ap, _∙_}
 use Prim.Native.Nat.{ℕ, _<_, _≤_}
 use borrow.Author.Tests.{lt-ltb, le-ltb, le-leb, lt-leb, eq-eqb, ne-eqb}
 use lib.Dec.{ltb, leb, eqb}
@@ -37,6 +38,9 @@ module _ {ℓ} {A : Type ℓ} where
 
   pub pick-ne : {m n : ℕ} (x y : A) → (m ≡ n → ⊥) → pick (eqb m n) x y ≡ y
   pick-ne {m} {n} x y h = pick-no x y (ne-eqb m n h)
+
+  pub pick-key : {m k : ℕ} (j : ℕ) (x y : A) → m ≡ k → eqb k j ≡ false → pick (eqb m j) x y ≡ y
+  pick-key j x y e n = pick-no x y (ap (λ (i : ℕ). eqb i j) e ∙ n)
 
   pub pick-both : (P : A → Type 0) (b : Bool) {x y : A} → P x → P y → P (pick b x y)
   unfolding pick

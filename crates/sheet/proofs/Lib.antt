@@ -1,0 +1,2 @@
+-- The laws of the device sheet.
+pub mod Sought

@@ -1,0 +1,19 @@
+-- `sheet::kinds::least_number` meets its contract: nothing was read before, or the record before is looked up.
+use mathlib.Core.Path.{sym}
+use borrow.Author.Needs.{needs}
+use Rattle.octets.proofs.Pick.{pick-eq, pick-ne}
+use Rattle.sheet.specs.Kinds.{leastNumber}
+use Rattle.sheet.proofs.kinds.least_number.Statement.{statement}
+use Rattle.sheet.proofs.kinds.least_number.Tie as tie
+
+returns : tie.Need-returns
+unfolding leastNumber
+returns c = sym (pick-eq _ _ (c .if1 .taken))
+
+returns-2 : tie.Need-returns-2
+unfolding leastNumber
+returns-2 c = rw (c .before .parameter-at .ensures) (sym (pick-ne _ _ (c .before .before .if1 .left)))
+
+pub least-number-spec : {M : Type 1} → statement M
+least-number-spec =
+    tie.close (tie.spec returns (λ c. search needs) (λ c κs. search needs) (λ c. search needs) (λ c. search needs) returns-2)

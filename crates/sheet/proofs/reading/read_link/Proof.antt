@@ -1,0 +1,21 @@
+-- `sheet::reading::read_link` meets its contract.
+use mathlib.Core.Bool.{not}
+use mathlib.Core.Path.{sym, ap, _∙_}
+use borrow.Author.Needs.{needs}
+use Rattle.octets.proofs.Pick.{pick-yes, pick-no}
+use Rattle.sheet.specs.Kinds.{isLength}
+use Rattle.sheet.specs.Reading.{linkOf}
+use Rattle.sheet.proofs.reading.read_link.Statement.{statement}
+use Rattle.sheet.proofs.reading.read_link.Tie as tie
+
+returns : tie.Need-returns
+unfolding linkOf
+returns c = sym (pick-yes _ _ (ap not (sym (c .before .is-length .ensures ∙ ap isLength (c .before .before .octet .ensures))) ∙ c .if1 .taken))
+
+returns-2 : tie.Need-returns-2
+unfolding linkOf
+returns-2 c = sym (pick-no _ _ (ap not (sym (c .before .is-length .ensures ∙ ap isLength (c .before .before .octet .ensures))) ∙ c .if1 .left))
+
+pub read-link-spec : {M : Type 1} → statement M
+read-link-spec =
+    tie.close (tie.spec (λ c κs. search needs) (λ c κs. search needs) returns returns-2)

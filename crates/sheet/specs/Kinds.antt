@@ -1,0 +1,39 @@
+-- The kinds of record, where each may stand, and what each is compared with. `so` counts what was read so far.
+use Prim.Native.Nat.{ℕ, suc, _+_, _-_, _*_}
+use mathlib.Core.Bool.{Bool, true, false, not, _&&_, _||_}
+use mathlib.Core.List.{List}
+use lib.Dec.{eqb, ltb}
+use Rattle.octets.specs.Pick.{pick}
+use Rattle.regions.specs.Region.{regionAt}
+use Rattle.sheet.specs.Entries.{parameterAt, itemAt}
+use Rattle.sheet.specs.declared.records.Counts.{Counts}
+
+-- PDU length L of 8, 16, 32, 48 or 64
+unfoldable pub isLength : ℕ → Bool
+isLength l = eqb l 8 || eqb l 16 || eqb l 32 || eqb l 48 || eqb l 64
+
+-- the octets of a record, its kind octet among them: 00 end, 01 link, 02 region, 03 parameter, 04 ID item
+unfoldable pub sizeOf : ℕ → ℕ
+sizeOf kind = pick (eqb kind 0) 1 (pick (eqb kind 1) 4 (pick (eqb kind 2) 10 (pick (eqb kind 3) 8 35)))
+
+-- "The link record comes first and once; then regions, parameters, ID items, end"
+unfoldable pub misplacedOf : Bool → ℕ → Counts → Bool
+misplacedOf true kind so = not (eqb kind 1)
+misplacedOf false kind so =
+    eqb kind 1
+    || (eqb kind 2 && ltb 0 (so .parameters))
+    || (eqb kind 2 && ltb 0 (so .items))
+    || (eqb kind 3 && ltb 0 (so .items))
+
+-- one past the last address of the region before; 0 where there is none
+unfoldable pub endBefore : List ℕ → Counts → ℕ
+endBefore s so =
+    pick (eqb (so .regions) 0) 0 (regionAt s (so .regions - 1) .start + regionAt s (so .regions - 1) .length)
+
+-- "parameter numbers .. rise strictly": at least one more than the number before; 0 where there is none
+unfoldable pub leastNumber : List ℕ → Counts → ℕ
+leastNumber s so = pick (eqb (so .parameters) 0) 0 (parameterAt s (so .regions) (so .parameters - 1) .number + 1)
+
+-- "ID codes rise strictly"
+unfoldable pub leastCode : List ℕ → Counts → ℕ
+leastCode s so = pick (eqb (so .items) 0) 0 (itemAt s (so .regions) (so .parameters) (so .items - 1) .code + 1)

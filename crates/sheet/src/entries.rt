@@ -1,0 +1,93 @@
+// Parameters and ID items, read where the caller holds the sheet. Records have fixed sizes, so counts and an index give a place.
+ghost use mathlib.Core.Path.{_≡_};
+ghost use Rattle.sheet.specs.Entries.{parameterFrom, parameterAt, itemFrom, itemAt, parametersOf, itemsOf, soughtParameter, soughtItem};
+
+// What a parameter record says behind its kind octet.
+pub struct Parameter {
+    pub number: u16,
+    pub address: u32,
+    pub size: u8,
+}
+
+// What an ID item record says: its code, its length, and the place in the sheet of its first octet.
+pub struct Item {
+    pub code: u8,
+    pub length: u8,
+    pub at: u32,
+}
+
+pub enum SoughtParameter {
+    Found(Parameter),
+    Missing,
+}
+
+pub enum SoughtItem {
+    Found(Item),
+    Missing,
+}
+
+// The parameter record whose kind octet stands at `at`; octets past the end count as 0.
+pub fn parameter_from(sheet: &[u8], at: u16) -> Parameter
+    ensures { λ r. ⌜ r ≡ parameterFrom (now (sheet .entry)) at ⌝ }
+{
+    Parameter {
+        number: octets::le2_at(sheet, at as u32 + 1),
+        address: octets::le4_at(sheet, at as u32 + 3),
+        size: octets::octet(sheet, at as usize + 7),
+    }
+}
+
+// Parameter `j` of a sheet with `regions` regions.
+pub fn parameter_at(sheet: &[u8], regions: u8, j: u8) -> Parameter
+    ensures { λ r. ⌜ r ≡ parameterAt (now (sheet .entry)) regions j ⌝ }
+{
+    parameter_from(sheet, 4 + 10 * (regions as u16) + 8 * (j as u16))
+}
+
+// The ID item record whose kind octet stands at `at`; octets past the end count as 0.
+pub fn item_from(sheet: &[u8], at: u16) -> Item
+    ensures { λ r. ⌜ r ≡ itemFrom (now (sheet .entry)) at ⌝ }
+{
+    Item {
+        code: octets::octet(sheet, at as usize + 1),
+        length: octets::octet(sheet, at as usize + 2),
+        at: at as u32 + 3,
+    }
+}
+
+// Item `k` of a sheet with `regions` regions and `parameters` parameters.
+pub fn item_at(sheet: &[u8], regions: u8, parameters: u8, k: u8) -> Item
+    ensures { λ r. ⌜ r ≡ itemAt (now (sheet .entry)) regions parameters k ⌝ }
+{
+    item_from(sheet, 4 + 10 * (regions as u16) + 8 * (parameters as u16) + 35 * (k as u16))
+}
+
+// The parameter of a number.
+pub fn find_parameter(sheet: &[u8], regions: u8, parameters: u8, number: u16) -> SoughtParameter
+    ensures { λ r. ⌜ r ≡ soughtParameter (parametersOf (now (sheet .entry)) regions parameters) number ⌝ }
+{
+    let mut j: u8 = 0;
+    while j < parameters {
+        let parameter = parameter_at(sheet, regions, j);
+        if parameter.number == number {
+            return SoughtParameter::Found(parameter);
+        }
+        j += 1;
+    }
+    SoughtParameter::Missing
+}
+
+// The ID item of a code.
+pub fn find_item(sheet: &[u8], regions: u8, parameters: u8, items: u8, code: u8) -> SoughtItem
+    ensures { λ r. ⌜ r ≡ soughtItem (itemsOf (now (sheet .entry)) regions parameters items) code ⌝ }
+{
+    let mut k: u8 = 0;
+    while k < items {
+        let item = item_at(sheet, regions, parameters, k);
+        if item.code == code {
+            return SoughtItem::Found(item);
+        }
+        k += 1;
+    }
+    SoughtItem::Missing
+}

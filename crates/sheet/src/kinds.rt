@@ -1,0 +1,70 @@
+// The kinds of record: the size of each, where each may stand, and what its order is held against.
+use crate::records::Counts;
+ghost use mathlib.Core.Path.{_≡_};
+ghost use Rattle.sheet.specs.Kinds.{sizeOf, isLength, misplacedOf, endBefore, leastNumber, leastCode};
+
+// Whether a PDU length is one of the five.
+pub fn is_length(l: u8) -> bool
+    ensures { λ r. ⌜ r ≡ isLength l ⌝ }
+{
+    (l == 8) | (l == 16) | (l == 32) | (l == 48) | (l == 64)
+}
+
+// The octets of a record of a known kind, its kind octet among them.
+pub fn size_of(kind: u8) -> u8
+    ensures { λ r. ⌜ r ≡ sizeOf kind ⌝ }
+{
+    match kind {
+        0 => 1,
+        1 => 4,
+        2 => 10,
+        3 => 8,
+        _ => 35,
+    }
+}
+
+// Whether a known kind is out of place: at the front all but the link record, behind it the link record and what should come before.
+pub fn misplaced(first: bool, kind: u8, so: Counts) -> bool
+    ensures { λ r. ⌜ r ≡ misplacedOf first kind so ⌝ }
+{
+    if first {
+        return kind != 1;
+    }
+    (kind == 1) | ((kind == 2) & (0 < so.parameters)) | ((kind == 2) & (0 < so.items)) | ((kind == 3) & (0 < so.items))
+}
+
+// One past the last address of the region read last; 0 where none was read.
+pub fn end_before(sheet: &[u8], so: Counts) -> u64
+    ensures { λ r. ⌜ r ≡ endBefore (now (sheet .entry)) so ⌝ }
+{
+    let n = so.regions;
+    if n == 0 {
+        return 0;
+    }
+    let last = regions::region_at(sheet, n - 1);
+    last.start as u64 + last.length as u64
+}
+
+// The least number that the next parameter may have: one more than the number read last.
+pub fn least_number(sheet: &[u8], so: Counts) -> u32
+    ensures { λ r. ⌜ r ≡ leastNumber (now (sheet .entry)) so ⌝ }
+{
+    let n = so.parameters;
+    if n == 0 {
+        return 0;
+    }
+    let last = crate::entries::parameter_at(sheet, so.regions, n - 1);
+    last.number as u32 + 1
+}
+
+// The least code that the next ID item may have: one more than the code read last.
+pub fn least_code(sheet: &[u8], so: Counts) -> u16
+    ensures { λ r. ⌜ r ≡ leastCode (now (sheet .entry)) so ⌝ }
+{
+    let n = so.items;
+    if n == 0 {
+        return 0;
+    }
+    let last = crate::entries::item_at(sheet, so.regions, so.parameters, n - 1);
+    last.code as u16 + 1
+}

@@ -1,0 +1,100 @@
+// One record's reading from the front of the part that is not yet read: its fields are cut out, and then judged.
+use crate::records::{Counts, Fault, Reading};
+ghost use mathlib.Core.Path.{_≡_};
+ghost use Prim.Native.Nat.{_+_, _-_, _≤_};
+ghost use lib.ListN.{length, take, drop};
+ghost use Rattle.octets.specs.Parts.{allZero};
+ghost use Rattle.regions.specs.Apart.{Apart};
+ghost use Rattle.regions.specs.Region.{regionsOf};
+ghost use Rattle.regions.specs.Search.{spanHas};
+ghost use Rattle.regions.specs.declared.Right.the-variants.{Mapped};
+ghost use Rattle.sheet.specs.Kinds.{sizeOf};
+ghost use Rattle.sheet.specs.Reading.{linkOf, regionOf, parameterOf, itemOf, bodyOf, recordOf};
+
+fn read_link(rest: &[u8], so: Counts) -> Reading
+    ensures { λ r. ⌜ r ≡ linkOf (now (rest .entry)) so ⌝ }
+{
+    if !crate::kinds::is_length(octets::octet(rest, 1)) {
+        return Reading::Bad(Fault::Range);
+    }
+    Reading::Record(4, so)
+}
+
+fn read_region(sheet: &[u8], rest: &[u8], so: Counts) -> Reading
+    ensures { λ r. ⌜ r ≡ regionOf (now (sheet .entry)) (now (rest .entry)) so ⌝ }
+{
+    crate::judging::judge_region(regions::region_from(rest, 0), crate::kinds::end_before(sheet, so), so)
+}
+
+// Whether a span lies wholly in the regions read so far: once through them, where the definition searches octet by octet.
+fn mapped(sheet: &[u8], regions: u8, address: u32, size: u8) -> bool
+    requires { ⌜ Apart 0 (regionsOf (now sheet) regions) ⌝ }
+    ensures { λ r. ⌜ r ≡ spanHas (regionsOf (now (sheet .entry)) regions) Mapped address size ⌝ }
+{
+    address as u64 + size as u64 <= regions::search::reach(sheet, regions, address)
+}
+
+fn read_parameter(sheet: &[u8], rest: &[u8], so: Counts) -> Reading
+    requires { ⌜ Apart 0 (regionsOf (now sheet) (so .regions)) ⌝ }
+    ensures { λ r. ⌜ r ≡ parameterOf (now (sheet .entry)) (now (rest .entry)) so ⌝ }
+{
+    let parameter = crate::entries::parameter_from(rest, 0);
+    let inside = mapped(sheet, so.regions, parameter.address, parameter.size);
+    crate::judging::judge_parameter(parameter, crate::kinds::least_number(sheet, so), inside, so)
+}
+
+// Whether the octets past an ID item's length, up to its record's end, are zero.
+fn tail_is_zero(rest: &[u8], own: u8) -> bool
+    requires { ⌜ 35 ≤ length (now rest) ⌝ }
+    ensures { λ r. ⌜ r ≡ allZero (take (32 - own) (drop (3 + own) (now (rest .entry)))) ⌝ }
+{
+    if 32 < own {
+        return true;
+    }
+    let from = 3 + (own as usize);
+    octets::zeros(&rest[from..35])
+}
+
+fn read_item(sheet: &[u8], rest: &[u8], so: Counts) -> Reading
+    requires { ⌜ 35 ≤ length (now rest) ⌝ }
+    ensures { λ r. ⌜ r ≡ itemOf (now (sheet .entry)) (now (rest .entry)) so ⌝ }
+{
+    let item = crate::entries::item_from(rest, 0);
+    let tail = tail_is_zero(rest, item.length);
+    crate::judging::judge_item(item, tail, crate::kinds::least_code(sheet, so), so)
+}
+
+// A whole record of a known kind in its place.
+fn read_body(kind: u8, sheet: &[u8], rest: &[u8], so: Counts) -> Reading
+    requires { ⌜ (sizeOf kind ≤ length (now rest)) × Apart 0 (regionsOf (now sheet) (so .regions)) ⌝ }
+    ensures { λ r. ⌜ r ≡ bodyOf kind (now (sheet .entry)) (now (rest .entry)) so ⌝ }
+{
+    match kind {
+        0 => Reading::End,
+        1 => read_link(rest, so),
+        2 => read_region(sheet, rest, so),
+        3 => read_parameter(sheet, rest, so),
+        _ => read_item(sheet, rest, so),
+    }
+}
+
+// The record at the front of `rest`, the part of the sheet that is not yet read.
+fn read_record(sheet: &[u8], rest: &[u8], so: Counts) -> Reading
+    requires { ⌜ Apart 0 (regionsOf (now sheet) (so .regions)) ⌝ }
+    ensures { λ r. ⌜ r ≡ recordOf (now (sheet .entry)) (now (rest .entry)) so ⌝ }
+{
+    if rest.len() == 0 {
+        return Reading::Bad(Fault::Ended);
+    }
+    let kind = rest[0];
+    if 4 < kind {
+        return Reading::Bad(Fault::Unknown);
+    }
+    if crate::kinds::misplaced(rest.len() == sheet.len(), kind, so) {
+        return Reading::Bad(Fault::Misplaced);
+    }
+    if rest.len() < crate::kinds::size_of(kind) as usize {
+        return Reading::Bad(Fault::Ended);
+    }
+    read_body(kind, sheet, rest, so)
+}
