@@ -41,7 +41,12 @@ pub fn le4_at(s: &[u8], i: u32) -> u32
     ensures { λ r. ⌜ r ≡ le4At (now (s .entry)) i ⌝ }
 {
     let at = i as usize;
-    le4(octet(s, at), octet(s, at + 1), octet(s, at + 2), octet(s, at + 3))
+    le4(
+        octet(s, at),
+        octet(s, at + 1),
+        octet(s, at + 2),
+        octet(s, at + 3),
+    )
 }
 
 // Whether every octet of a part is 0.

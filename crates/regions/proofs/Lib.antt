@@ -1,4 +1,5 @@
 -- The laws of the regions.
+pub mod Apart
 pub mod Bounds
 pub mod Listed
 pub mod Turns

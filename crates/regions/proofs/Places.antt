@@ -69,8 +69,8 @@ mapped-spot (r ∷ rs) base a g =
     ⊎-elim
     (λ h. (base + (a - r .start), (r .rights, spot-yes r rs base a h)))
     (λ h.
-      let later = mapped-spot rs (base + r .length) a (sym (grants-no r rs base a Mapped h) ∙ g) in
-      (later .0, (later .1 .0, spot-no r rs base a h ∙ later .1 .1)))
+    let later = mapped-spot rs (base + r .length) a (sym (grants-no r rs base a Mapped h) ∙ g) in
+    (later .0, (later .1 .0, spot-no r rs base a h ∙ later .1 .1)))
     (decided (holdsOf r a))
 
 pub spot-inside : (rs : List Region) (base a p x : ℕ) → spotOf rs base a ≡ At p x → (base ≤ p) × (p < base + totalOf rs)
@@ -79,12 +79,12 @@ spot-inside [] base a p x e = absurd (no-spot e)
 spot-inside (r ∷ rs) base a p x e =
     ⊎-elim
     (λ h.
-      let b = holds-bounds r a h in
-      let q = same-place (sym (spot-yes r rs base a h) ∙ e) in
-      (omega arith, omega arith))
+    let b = holds-bounds r a h in
+    let q = same-place (sym (spot-yes r rs base a h) ∙ e) in
+    (omega arith, omega arith))
     (λ h.
-      let k = spot-inside rs (base + r .length) a p x (sym (spot-no r rs base a h) ∙ e) in
-      (omega arith, omega arith))
+    let k = spot-inside rs (base + r .length) a p x (sym (spot-no r rs base a h) ∙ e) in
+    (omega arith, omega arith))
     (decided (holdsOf r a))
 
 -- an octet with a place is at or past the end that the regions are apart from
@@ -104,13 +104,13 @@ spot-first end [] d base g = absurd (false≢true g)
 spot-first end (r ∷ rs) d base g =
     ⊎-elim
     (λ h.
-      let b = holds-bounds r end h in
-      let q : base + (end - r .start) ≡ base = omega (arith, d .0) in
-      (r .rights, spot-yes r rs base end h ∙ rw q refl))
+    let b = holds-bounds r end h in
+    let q : base + (end - r .start) ≡ base = omega (arith, d .0) in
+    (r .rights, spot-yes r rs base end h ∙ rw q refl))
     (λ h.
-      let later = mapped-spot rs base end (sym (grants-no r rs base end Mapped h) ∙ g) in
-      let k = spot-from (r .start + r .length) rs (d .2) base end (later .0) (later .1 .0) (later .1 .1) in
-      absurd (let z : ⊥ = omega (arith, d .0, d .1) in z))
+    let later = mapped-spot rs base end (sym (grants-no r rs base end Mapped h) ∙ g) in
+    let k = spot-from (r .start + r .length) rs (d .2) base end (later .0) (later .1 .0) (later .1 .1) in
+    absurd (let z : ⊥ = omega (arith, d .0, d .1) in z))
     (decided (holdsOf r end))
 
 -- the octet behind one that has a place, if mapped, has the next place
@@ -121,25 +121,25 @@ spot-next end [] d base a p s g = absurd (no-spot (s .1))
 spot-next end (r ∷ rs) d base a p s g =
     ⊎-elim
     (λ h.
-      let b = holds-bounds r a h in
-      let q = same-place (sym (spot-yes r rs base a h) ∙ s .1) in
-      ⊎-elim
-      (λ k.
-        let n : base + (suc a - r .start) ≡ suc p = omega arith in
-        (r .rights, spot-yes r rs base (suc a) k ∙ rw n refl))
-      (λ k.
-        let f = misses-past r (suc a) k (omega arith) in
-        let z : r .start + r .length ≡ suc a = omega arith in
-        let n : base + r .length ≡ suc p = omega arith in
-        let t = spot-first (suc a) rs (subst (λ (x : ℕ). Apart x rs) z (d .2)) (base + r .length) (sym (grants-no r rs base (suc a) Mapped k) ∙ g) in
-        (t .0, spot-no r rs base (suc a) k ∙ t .1 ∙ rw n refl))
-      (decided (holdsOf r (suc a))))
+    let b = holds-bounds r a h in
+    let q = same-place (sym (spot-yes r rs base a h) ∙ s .1) in
+    ⊎-elim
+    (λ k.
+    let n : base + (suc a - r .start) ≡ suc p = omega arith in
+    (r .rights, spot-yes r rs base (suc a) k ∙ rw n refl))
+    (λ k.
+    let f = misses-past r (suc a) k (omega arith) in
+    let z : r .start + r .length ≡ suc a = omega arith in
+    let n : base + r .length ≡ suc p = omega arith in
+    let t = spot-first (suc a) rs (subst (λ (x : ℕ). Apart x rs) z (d .2)) (base + r .length) (sym (grants-no r rs base (suc a) Mapped k) ∙ g) in
+    (t .0, spot-no r rs base (suc a) k ∙ t .1 ∙ rw n refl))
+    (decided (holdsOf r (suc a))))
     (λ h.
-      let there = sym (spot-no r rs base a h) ∙ s .1 in
-      let l = spot-from (r .start + r .length) rs (d .2) (base + r .length) a p (s .0) there in
-      let k = past-misses r (suc a) (omega arith) in
-      let t = spot-next (r .start + r .length) rs (d .2) (base + r .length) a p (s .0, there) (sym (grants-no r rs base (suc a) Mapped k) ∙ g) in
-      (t .0, spot-no r rs base (suc a) k ∙ t .1))
+    let there = sym (spot-no r rs base a h) ∙ s .1 in
+    let l = spot-from (r .start + r .length) rs (d .2) (base + r .length) a p (s .0) there in
+    let k = past-misses r (suc a) (omega arith) in
+    let t = spot-next (r .start + r .length) rs (d .2) (base + r .length) a p (s .0, there) (sym (grants-no r rs base (suc a) Mapped k) ∙ g) in
+    (t .0, spot-no r rs base (suc a) k ∙ t .1))
     (decided (holdsOf r a))
 
 module _ (end : ℕ) (rs : List Region) (d : Apart end rs) (base a p n : ℕ) (s : Stands rs base a p) (all : beforeOf rs Mapped a n ≡ n) where

@@ -57,12 +57,12 @@ reach-mapped [] t x l u = absurd (let k : ⊥ = omega arith in k)
 reach-mapped (r ∷ rs) t x l u =
     ⊎-elim
     (λ h.
-      let b = holds-bounds r t h in
-      let v : x < reachOf rs (r .start + r .length) = rw (pick-yes (r .start + r .length) t h) at u in
-      ⊎-elim
-      (λ (p : x < r .start + r .length). mapped-here r rs x (bounds-hold r x (omega arith) p))
-      (λ (p : r .start + r .length ≤ x). mapped-later r rs x (reach-mapped rs (r .start + r .length) x p v))
-      (lt-or-le x (r .start + r .length)))
+    let b = holds-bounds r t h in
+    let v : x < reachOf rs (r .start + r .length) = rw (pick-yes (r .start + r .length) t h) at u in
+    ⊎-elim
+    (λ (p : x < r .start + r .length). mapped-here r rs x (bounds-hold r x (omega arith) p))
+    (λ (p : r .start + r .length ≤ x). mapped-later r rs x (reach-mapped rs (r .start + r .length) x p v))
+    (lt-or-le x (r .start + r .length)))
     (λ h. mapped-later r rs x (reach-mapped rs t x l (rw (pick-no (r .start + r .length) t h) at u)))
     (decided (holdsOf r t))
 
@@ -74,8 +74,8 @@ reach-moved end (r ∷ rs) p t n =
     ⊎-elim
     (λ h. let b = holds-bounds r t h in omega (arith, p .0))
     (λ h.
-      let k = reach-moved (r .start + r .length) rs (p .2) t (λ e. n (ap (reachOf rs) (pick-no _ _ h) ∙ e)) in
-      omega (arith, p .0))
+    let k = reach-moved (r .start + r .length) rs (p .2) t (λ e. n (ap (reachOf rs) (pick-no _ _ h) ∙ e)) in
+    omega (arith, p .0))
     (decided (holdsOf r t))
 
 -- a region before the others that has not the start has not what is reached either
@@ -84,9 +84,9 @@ missed r rs t p h =
     ⊎-elim
     (λ e. rw e h)
     (λ n.
-      let k = reach-moved (r .start + r .length) rs p t n in
-      let m = reach-on rs t in
-      past-misses r (reachOf rs t) (omega arith))
+    let k = reach-moved (r .start + r .length) rs p t n in
+    let m = reach-on rs t in
+    past-misses r (reachOf rs t) (omega arith))
     (eq-or-ne (reachOf rs t) t)
 
 -- what is reached is itself in no region
@@ -96,12 +96,12 @@ reach-unmapped end [] p t = refl
 reach-unmapped end (r ∷ rs) p t =
     ⊎-elim
     (λ h.
-      let to = r .start + r .length in
-      let k = reach-on rs to in
-      rw (pick-yes to t h) (mapped-past r rs (reachOf rs to) Mapped (past-misses r (reachOf rs to) k) ∙ reach-unmapped to rs (p .2) to))
+    let to = r .start + r .length in
+    let k = reach-on rs to in
+    rw (pick-yes to t h) (mapped-past r rs (reachOf rs to) Mapped (past-misses r (reachOf rs to) k) ∙ reach-unmapped to rs (p .2) to))
     (λ h.
-      rw (pick-no (r .start + r .length) t h)
-      (mapped-past r rs (reachOf rs t) Mapped (missed r rs t (p .2) h) ∙ reach-unmapped (r .start + r .length) rs (p .2) t))
+    rw (pick-no (r .start + r .length) t h)
+    (mapped-past r rs (reachOf rs t) Mapped (missed r rs t (p .2) h) ∙ reach-unmapped (r .start + r .length) rs (p .2) t))
     (decided (holdsOf r t))
 
 -- a span whose every octet has the right has all n octets before the first that lacks it
@@ -119,11 +119,11 @@ all-before rs w a zero e x l u = absurd (let k : ⊥ = omega arith in k)
 all-before rs w a (suc n) e x l u =
     ⊎-elim
     (λ h.
-      let m : suc (beforeOf rs w (suc a) n) ≡ suc n = sym (pick-yes _ _ h) ∙ e in
-      ⊎-elim
-      (λ (p : x < suc a). subst (λ (y : ℕ). grantsOf rs w y ≡ true) (let q : a ≡ x = omega arith in q) h)
-      (λ (p : suc a ≤ x). all-before rs w (suc a) n (omega arith) x p (omega arith))
-      (lt-or-le x (suc a)))
+    let m : suc (beforeOf rs w (suc a) n) ≡ suc n = sym (pick-yes _ _ h) ∙ e in
+    ⊎-elim
+    (λ (p : x < suc a). subst (λ (y : ℕ). grantsOf rs w y ≡ true) (let q : a ≡ x = omega arith in q) h)
+    (λ (p : suc a ≤ x). all-before rs w (suc a) n (omega arith) x p (omega arith))
+    (lt-or-le x (suc a)))
     (λ h. absurd (let m : 0 ≡ suc n = sym (pick-no _ _ h) ∙ e in let k : ⊥ = omega arith in k))
     (decided (grantsOf rs w a))
 
@@ -131,10 +131,10 @@ pub reach-law : (end : ℕ) (rs : List Region) → Apart end rs → (a n : ℕ) 
 reach-law end rs p a n =
     ⊎-elim
     (λ (h : reachOf rs a < a + n).
-      let l = reach-on rs a in
-      lt-leb (a + n) (reachOf rs a) h
-      ∙ sym (ne-eqb _ _ (λ e. true≢false (sym (all-before rs Mapped a n e (reachOf rs a) l h) ∙ reach-unmapped end rs p a))))
+    let l = reach-on rs a in
+    lt-leb (a + n) (reachOf rs a) h
+    ∙ sym (ne-eqb _ _ (λ e. true≢false (sym (all-before rs Mapped a n e (reachOf rs a) l h) ∙ reach-unmapped end rs p a))))
     (λ (h : a + n ≤ reachOf rs a).
-      le-leb (a + n) (reachOf rs a) h
-      ∙ sym (eq-eqb _ _ (before-all rs Mapped a n (λ x l u. reach-mapped rs a x l (omega arith)))))
+    le-leb (a + n) (reachOf rs a) h
+    ∙ sym (eq-eqb _ _ (before-all rs Mapped a n (λ x l u. reach-mapped rs a x l (omega arith)))))
     (lt-or-le (reachOf rs a) (a + n))

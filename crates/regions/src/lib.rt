@@ -1,6 +1,7 @@
 // The regions of a sheet, read where the caller holds the sheet: nothing is copied, and nothing here knows any other record.
 // A virtual address is a u32, or a u64 where one past the last address must not wrap; a place is an index into the memory.
 pub mod search; // search.rt: one octet's place and rights, and the searches over a span
+
 ghost use mathlib.Core.Path.{_≡_};
 ghost use Rattle.regions.specs.Region.{regionAt, regionFrom, holdsOf, givesOf};
 

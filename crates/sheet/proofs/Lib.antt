@@ -1,2 +1,6 @@
 -- The laws of the device sheet.
 pub mod Sought
+pub mod Judged
+pub mod Steps
+pub mod Onward
+pub mod Walked

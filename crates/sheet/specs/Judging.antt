@@ -22,7 +22,11 @@ judgedRegion r end so =
     (pick (ltb 65536 (so .memory + r .length)) (Bad Excess)
     (pick (ltb (r .start) end) (Bad Disorder)
     (Record 10 (record {
-      regions = so .regions + 1; parameters = so .parameters; items = so .items; memory = so .memory + r .length })))))))
+      regions = so .regions + 1;
+      parameters = so .parameters;
+      items = so .items;
+      memory = so .memory + r .length;
+    })))))))
 
 -- kind 03: "Parameter size 1 to 56"; "a parameter's span lies wholly in regions"
 unfoldable pub judgedParameter : Parameter → ℕ → Bool → Counts → Reading
@@ -33,7 +37,11 @@ judgedParameter p least mapped so =
     (pick (ltb (p .number) least) (Bad Disorder)
     (pick (not mapped) (Bad Unmapped)
     (Record 8 (record {
-      regions = so .regions; parameters = so .parameters + 1; items = so .items; memory = so .memory }))))))
+      regions = so .regions;
+      parameters = so .parameters + 1;
+      items = so .items;
+      memory = so .memory;
+    }))))))
 
 -- kind 04: "ID length 1 to 32, the octets past it zero"
 unfoldable pub judgedItem : Item → Bool → ℕ → Counts → Reading
@@ -44,4 +52,8 @@ judgedItem i tail least so =
     (pick (leb 32 (so .items)) (Bad Excess)
     (pick (ltb (i .code) least) (Bad Disorder)
     (Record 35 (record {
-      regions = so .regions; parameters = so .parameters; items = so .items + 1; memory = so .memory }))))))
+      regions = so .regions;
+      parameters = so .parameters;
+      items = so .items + 1;
+      memory = so .memory;
+    }))))))

@@ -4,3 +4,5 @@ pub mod Faults
 pub mod Kinds
 pub mod Judging
 pub mod Reading
+pub mod Walk
+pub mod Sound

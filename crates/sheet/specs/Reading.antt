@@ -16,7 +16,7 @@ use Rattle.sheet.specs.Kinds.{isLength, sizeOf, misplacedOf, endBefore, 
 use Rattle.sheet.specs.declared.records.Counts.{Counts}
 use Rattle.sheet.specs.declared.records.Fault.the-variants.{Ended, Unknown, Misplaced, Range}
 use Rattle.sheet.specs.declared.records.Reading.{Reading}
-use Rattle.sheet.specs.declared.records.Reading.the-variants.{Record, End, Bad}
+use Rattle.sheet.specs.declared.records.Reading.the-variants.{Record, Bad}
 
 -- kind 01: L is one of the five; version and profile are free
 unfoldable pub linkOf : List ℕ → Counts → Reading
@@ -40,10 +40,10 @@ tailOf rest = take (32 - getD rest 2 0) (drop (3 + getD rest 2 0) rest)
 unfoldable pub itemOf : List ℕ → List ℕ → Counts → Reading
 itemOf s rest so = judgedItem (itemFrom rest 0) (allZero (tailOf rest)) (leastCode s so) so
 
--- a whole record of a known kind in its place
+-- a whole record of a known kind in its place; the end record, kind 00, has no body
 unfoldable pub bodyOf : ℕ → List ℕ → List ℕ → Counts → Reading
 bodyOf kind s rest so =
-    pick (eqb kind 0) End
+    pick (eqb kind 0) (Record 1 so)
     (pick (eqb kind 1) (linkOf rest so)
     (pick (eqb kind 2) (regionOf s rest so)
     (pick (eqb kind 3) (parameterOf s rest so)

@@ -59,7 +59,10 @@ pub fn item_from(sheet: &[u8], at: u16) -> Item
 pub fn item_at(sheet: &[u8], regions: u8, parameters: u8, k: u8) -> Item
     ensures { λ r. ⌜ r ≡ itemAt (now (sheet .entry)) regions parameters k ⌝ }
 {
-    item_from(sheet, 4 + 10 * (regions as u16) + 8 * (parameters as u16) + 35 * (k as u16))
+    item_from(
+        sheet,
+        4 + 10 * (regions as u16) + 8 * (parameters as u16) + 35 * (k as u16),
+    )
 }
 
 // The parameter of a number.

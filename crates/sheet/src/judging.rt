@@ -1,6 +1,9 @@
 // A record's fields judged, by value: the checks of each kind in document 01's order, and the first that fails is the fault.
-use crate::entries::{Item, Parameter};
-use crate::records::{Counts, Fault, Reading};
+use crate::entries::Item;
+use crate::entries::Parameter;
+use crate::records::Counts;
+use crate::records::Fault;
+use crate::records::Reading;
 use regions::Region;
 ghost use mathlib.Core.Path.{_≡_};
 ghost use Rattle.sheet.specs.Judging.{judgedRegion, judgedParameter, judgedItem};

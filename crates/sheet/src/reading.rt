@@ -1,5 +1,7 @@
 // One record's reading from the front of the part that is not yet read: its fields are cut out, and then judged.
-use crate::records::{Counts, Fault, Reading};
+use crate::records::Counts;
+use crate::records::Fault;
+use crate::records::Reading;
 ghost use mathlib.Core.Path.{_≡_};
 ghost use Prim.Native.Nat.{_+_, _-_, _≤_};
 ghost use lib.ListN.{length, take, drop};
@@ -23,7 +25,11 @@ fn read_link(rest: &[u8], so: Counts) -> Reading
 fn read_region(sheet: &[u8], rest: &[u8], so: Counts) -> Reading
     ensures { λ r. ⌜ r ≡ regionOf (now (sheet .entry)) (now (rest .entry)) so ⌝ }
 {
-    crate::judging::judge_region(regions::region_from(rest, 0), crate::kinds::end_before(sheet, so), so)
+    crate::judging::judge_region(
+        regions::region_from(rest, 0),
+        crate::kinds::end_before(sheet, so),
+        so,
+    )
 }
 
 // Whether a span lies wholly in the regions read so far: once through them, where the definition searches octet by octet.
@@ -70,7 +76,7 @@ fn read_body(kind: u8, sheet: &[u8], rest: &[u8], so: Counts) -> Reading
     ensures { λ r. ⌜ r ≡ bodyOf kind (now (sheet .entry)) (now (rest .entry)) so ⌝ }
 {
     match kind {
-        0 => Reading::End,
+        0 => Reading::Record(1, so),
         1 => read_link(rest, so),
         2 => read_region(sheet, rest, so),
         3 => read_parameter(sheet, rest, so),
@@ -79,7 +85,7 @@ fn read_body(kind: u8, sheet: &[u8], rest: &[u8], so: Counts) -> Reading
 }
 
 // The record at the front of `rest`, the part of the sheet that is not yet read.
-fn read_record(sheet: &[u8], rest: &[u8], so: Counts) -> Reading
+pub fn read_record(sheet: &[u8], rest: &[u8], so: Counts) -> Reading
     requires { ⌜ Apart 0 (regionsOf (now sheet) (so .regions)) ⌝ }
     ensures { λ r. ⌜ r ≡ recordOf (now (sheet .entry)) (now (rest .entry)) so ⌝ }
 {

@@ -21,10 +21,9 @@ pub struct Counts {
     pub memory: u32,
 }
 
-// A record with its size and the counts behind it; the end record; or a fault.
+// A record, with its size and the counts behind it, or a fault.
 pub enum Reading {
     Record(u8, Counts),
-    End,
     Bad(Fault),
 }
 

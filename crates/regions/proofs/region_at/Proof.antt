@@ -16,7 +16,8 @@ returns-2 c =
     λ i. record {
       start = (c .before .before .before .before .before .before .le4 .ensures ∙ sym (le4At-plus (a .sheet .now) at 1)) i;
       length = (c .before .le42 .ensures ∙ sym (le4At-plus (a .sheet .now) at 5)) i;
-      rights = getD (a .sheet .now) (at + 9) 0 }
+      rights = getD (a .sheet .now) (at + 9) 0;
+    }
 
 pub region-at-spec : {M : Type 1} → statement M
 region-at-spec =

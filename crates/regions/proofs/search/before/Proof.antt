@@ -47,7 +47,7 @@ octets-again c =
     let l = c .before .before .before .before .before .before .loop in
     let r = c .before .before .before .before .region-at in
     let t = l .inv .2 ∙ grants-here (regionAt (a .sheet .now)) (l .i) (a .regions) (r .result) (r .ensures) (c .before .before .before .before .before .loop-test .taken) (a .right) (a .address + o .j)
-          (sym (c .before .before .before .holds .ensures) ∙ c .before .before .if1 .taken) ∙ sym (c .before .gives .ensures) ∙ c .if2 .taken in
+    (sym (c .before .before .before .holds .ensures) ∙ c .before .before .if1 .taken) ∙ sym (c .before .gives .ensures) ∙ c .if2 .taken in
     rw (l .inv .0)
     (omega arith, o .inv .1 ∙ before-more (regionsOf (a .sheet .now) (a .regions)) (a .right) (a .address) (a .size) (o .j) (c .before .before .before .before .before .before .before .octets-test .taken) t)
 
@@ -58,10 +58,12 @@ loop-again : tie.Need-loop-again Inv-loop μ-loop Inv-octets μ-octets
 loop-again c =
     let a = c .before .before .before .before .before .before .before .before .args in
     let l = c .before .before .before .before .loop in
-    let r = c .before .before .region-at in
-    (l .inv .0, omega arith,
+    let r = c .before .before .region-at in (
+      l .inv .0,
+      omega arith,
       l .inv .2 ∙ grants-past (regionAt (a .sheet .now)) (l .i) (a .regions) (r .result) (r .ensures) (c .before .before .before .loop-test .taken) (a .right) (a .address + c .before .before .before .before .before .before .octets .j)
-      (sym (c .before .holds .ensures) ∙ c .if1 .left))
+          (sym (c .before .holds .ensures) ∙ c .if1 .left),
+    )
 
 returns : tie.Need-returns Inv-loop μ-loop Inv-octets μ-octets
 returns c =
@@ -76,7 +78,7 @@ returns-2 c =
     let l = c .before .before .before .before .before .before .loop in
     let r = c .before .before .before .before .region-at in
     let t = l .inv .2 ∙ grants-here (regionAt (a .sheet .now)) (l .i) (a .regions) (r .result) (r .ensures) (c .before .before .before .before .before .loop-test .taken) (a .right) (a .address + o .j)
-          (sym (c .before .before .before .holds .ensures) ∙ c .before .before .if1 .taken) ∙ sym (c .before .gives .ensures) ∙ c .if2 .left in
+    (sym (c .before .before .before .holds .ensures) ∙ c .before .before .if1 .taken) ∙ sym (c .before .gives .ensures) ∙ c .if2 .left in
     l .inv .0 ∙ sym (o .inv .1 ∙ before-stop (regionsOf (a .sheet .now) (a .regions)) (a .right) (a .address) (a .size) (o .j) (c .before .before .before .before .before .before .before .octets-test .taken) t)
 
 returns-3 : tie.Need-returns-3 Inv-loop μ-loop Inv-octets μ-octets

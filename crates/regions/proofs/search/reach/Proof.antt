@@ -32,12 +32,13 @@ loop-again c =
     let a = c .before .before .before .before .before .before .args in
     let l = c .before .before .before .before .loop in
     let r = c .before .before .region-at in
-    let f = regionAt (a .sheet .now) in
-    (omega arith,
+    let f = regionAt (a .sheet .now) in (
+      omega arith,
       ⊎-elim
-      (λ w. rw (w .3) (l .inv .1 ∙ reach-here f (l .i) (a .regions) (r .result) (r .ensures) (c .before .before .before .loop-test .taken) (l .to) (sym (c .before .holds .ensures) ∙ w .0 .taken)))
-      (λ w. rw (w .1) (l .inv .1 ∙ reach-past f (l .i) (a .regions) (r .result) (r .ensures) (c .before .before .before .loop-test .taken) (l .to) (sym (c .before .holds .ensures) ∙ w .0 .left)))
-      (c .if1 .came))
+          (λ w. rw (w .3) (l .inv .1 ∙ reach-here f (l .i) (a .regions) (r .result) (r .ensures) (c .before .before .before .loop-test .taken) (l .to) (sym (c .before .holds .ensures) ∙ w .0 .taken)))
+          (λ w. rw (w .1) (l .inv .1 ∙ reach-past f (l .i) (a .regions) (r .result) (r .ensures) (c .before .before .before .loop-test .taken) (l .to) (sym (c .before .holds .ensures) ∙ w .0 .left)))
+          (c .if1 .came),
+    )
 
 returns : tie.Need-returns Inv-loop μ-loop
 returns c =

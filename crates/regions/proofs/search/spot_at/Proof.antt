@@ -70,10 +70,12 @@ loop-again : tie.Need-loop-again Inv-loop μ-loop
 loop-again c =
     let a = c .before .before .before .before .before .before .before .args in
     let l = c .before .before .before .before .before .loop in
-    let r = c .before .before .before .region-at in
-    (omega arith, omega arith,
+    let r = c .before .before .before .region-at in (
+      omega arith,
+      omega arith,
       l .inv .2 ∙ spot-past (regionAt (a .sheet .now)) (l .i) (a .regions) (r .result) (r .ensures) (c .before .before .before .before .loop-test .taken) (l .base) (a .address)
-      (sym (c .before .before .holds .ensures) ∙ c .before .if1 .left))
+          (sym (c .before .before .holds .ensures) ∙ c .before .if1 .left),
+    )
 
 returns-2 : tie.Need-returns-2 Inv-loop μ-loop
 returns-2 c =

@@ -1,0 +1,142 @@
+-- A record that was read, other than the end record, keeps the walk sound and lies within what was left.
+use mathlib.Core.Bool.{Bool, true, false, _&&_, _||_, true≢false}
+use mathlib.Core.Logic.{⊎-elim}
+use mathlib.Core.Path.{_≡_, refl, sym, ap, subst, _∙_}
+use mathlib.Core.List.{List}
+use Prim.Native.Nat.{ℕ, _+_, _≤_}
+use native.Mathlib.Omega.{arith}
+use borrow.Author.Tests.{eqb-true, eqb-false, ltb-false, eq-eqb, ne-eqb, not-false}
+use lib.Dec.{eqb, ltb}
+use lib.ListN.{length, getD, drop}
+use Rattle.octets.proofs.Cases.{eq-or-ne}
+use Rattle.octets.proofs.Pick.{passed, pick-eq, pick-ne, pick-key}
+use Rattle.regions.specs.Apart.{Apart}
+use Rattle.regions.specs.Region.{regionAt, regionsOf}
+use Rattle.regions.proofs.Apart.{apart-listed}
+use Rattle.sheet.specs.Kinds.{isLength, sizeOf, misplacedOf}
+use Rattle.sheet.specs.Reading.{linkOf, regionOf, parameterOf, itemOf, bodyOf, recordOf}
+use Rattle.sheet.specs.Sound.{Sound, Standing, behind}
+use Rattle.sheet.specs.Walk.{none, placeOf}
+use Rattle.sheet.specs.declared.records.Counts.{Counts}
+use Rattle.sheet.specs.declared.records.Reading.the-variants.{Record}
+use Rattle.sheet.proofs.Judged.{bad-record, same-size, same-counts, region-read, parameter-read, item-read}
+use Rattle.sheet.proofs.Steps.{step-link, step-region, step-parameter, step-item}
+
+-- the regions that were counted are ordered and apart
+pub sound-apart : (s : List ℕ) (at : ℕ) (so : Counts) → Sound s at so → Apart 0 (regionsOf s (so .regions))
+sound-apart s at so ok =
+    apart-listed (regionAt s) 0 (so .regions) 0
+    (λ i l u. ok .regions-fine i (omega arith) .some)
+    (λ i l u. ok .regions-rise i (omega arith))
+    (λ h. omega arith)
+
+or-false : (a b : Bool) → a || b ≡ false → (a ≡ false) × (b ≡ false)
+or-false true b e = absurd (true≢false e)
+or-false false b e = (refl, e)
+
+-- a test on the kind that holds and a count that is not 0 would have put the record out of place
+count-zero : (kind k n : ℕ) → kind ≡ k → eqb kind k && ltb 0 n ≡ false → n ≡ 0
+count-zero kind k n e f =
+    let l = ltb-false 0 n (sym (ap (λ (b : Bool). b && ltb 0 n) (eq-eqb kind k e)) ∙ f) in
+    omega arith
+
+-- what a record behind the link record that is in its place tells
+in-place : (kind : ℕ) (so : Counts) → misplacedOf false kind so ≡ false
+    → (kind ≡ 1 → ⊥) × (kind ≡ 2 → so .parameters ≡ 0) × (kind ≡ 2 → so .items ≡ 0) × (kind ≡ 3 → so .items ≡ 0)
+unfolding misplacedOf
+in-place kind so m =
+    let a = eqb kind 1 in
+    let b = eqb kind 2 && ltb 0 (so .parameters) in
+    let c = eqb kind 2 && ltb 0 (so .items) in
+    let d = eqb kind 3 && ltb 0 (so .items) in
+    let o₁ = or-false (a || b || c) d m in
+    let o₂ = or-false (a || b) c (o₁ .0) in
+    let o₃ = or-false a b (o₂ .0) in
+    (eqb-false kind 1 (o₃ .0), λ e. count-zero kind 2 _ e (o₃ .1), λ e. count-zero kind 2 _ e (o₂ .1), λ e. count-zero kind 3 _ e (o₁ .1))
+
+-- what the walk goes on with behind a record of n octets
+abbrev pub Goes : List ℕ → List ℕ → ℕ → Counts → Type 0
+Goes s rest n next = (1 ≤ n) × (n ≤ length rest) × Sound s (placeOf s rest + n) next
+
+module _ (s rest : List ℕ) (so : Counts) (n : ℕ) (next : Counts) (st : Standing s rest so) where
+  first-record : placeOf s rest ≡ 0 → so ≡ none → misplacedOf true (getD rest 0 0) so ≡ false → sizeOf (getD rest 0 0) ≤ length rest
+      → bodyOf (getD rest 0 0) s rest so ≡ Record n next → Goes s rest n next
+  unfolding misplacedOf bodyOf linkOf sizeOf
+  first-record z e m fits body =
+      let kind : getD rest 0 0 ≡ 1 = eqb-true (getD rest 0 0) 1 (not-false _ m) in
+      let whole : rest ≡ s = st .part ∙ ap (λ (i : ℕ). drop i s) z in
+      let p = passed _ bad-record (sym (pick-key 0 _ _ kind refl ∙ pick-eq _ _ kind) ∙ body) in
+      let four : 4 ≡ n = same-size (p .1) in
+      let size : sizeOf (getD rest 0 0) ≡ 4 = pick-key 0 _ _ kind refl ∙ pick-eq _ _ kind in
+      let to : 4 ≡ placeOf s rest + n = omega arith in
+      let first : isLength (getD s 1 0) ≡ true = ap (λ (l : List ℕ). isLength (getD l 1 0)) (sym whole) ∙ not-false _ (p .0) in (
+        omega (arith, four),
+        subst (λ (k : ℕ). k ≤ length rest) (size ∙ four) fits,
+        subst (λ (c : Counts). Sound s (placeOf s rest + n) c) (sym e ∙ same-counts (p .1))
+            (subst (λ (at : ℕ). Sound s at none) to
+            (step-link s (subst (λ (c : Counts). Sound s 0 c) e (subst (λ (at : ℕ). Sound s at so) z (st .sound))) first)),
+      )
+
+  module _ (here : placeOf s rest ≡ behind so) (first : isLength (getD s 1 0) ≡ true) (m : misplacedOf false (getD rest 0 0) so ≡ false)
+      (fits : sizeOf (getD rest 0 0) ≤ length rest) where
+    later-region : getD rest 0 0 ≡ 2 → regionOf s rest so ≡ Record n next → Goes s rest n next
+    unfolding regionOf sizeOf
+    later-region kind body =
+        let o = in-place (getD rest 0 0) so m in
+        let q = region-read _ _ so n next (rw (st .part) at body) in
+        let size : sizeOf (getD rest 0 0) ≡ 10 = pick-key 0 _ _ kind refl ∙ pick-key 1 _ _ kind refl ∙ pick-eq _ _ kind in (
+          omega (arith, q .size),
+          subst (λ (k : ℕ). k ≤ length rest) (size ∙ q .size) fits,
+          step-region s (placeOf s rest) so (st .sound) first here n next
+              (o .1 kind) (o .2 kind) q,
+        )
+
+    later-parameter : getD rest 0 0 ≡ 3 → parameterOf s rest so ≡ Record n next → Goes s rest n next
+    unfolding parameterOf sizeOf
+    later-parameter kind body =
+        let o = in-place (getD rest 0 0) so m in
+        let q = parameter-read _ _ _ so n next (rw (st .part) at body) in
+        let size : sizeOf (getD rest 0 0) ≡ 8 = pick-key 0 _ _ kind refl ∙ pick-key 1 _ _ kind refl ∙ pick-key 2 _ _ kind refl ∙ pick-eq _ _ kind in (
+          omega (arith, q .size),
+          subst (λ (k : ℕ). k ≤ length rest) (size ∙ q .size) fits,
+          step-parameter s (placeOf s rest) so (st .sound) first here n next (o .3 kind) q,
+        )
+
+    later-item : sizeOf (getD rest 0 0) ≡ 35 → itemOf s rest so ≡ Record n next → Goes s rest n next
+    unfolding itemOf
+    later-item size body =
+        let q = item-read _ _ _ so n next (rw (st .part) at body) in
+        (omega (arith, q .size), subst (λ (k : ℕ). k ≤ length rest) (size ∙ q .size) fits, step-item s (placeOf s rest) so (st .sound) first here n next q)
+
+    later-record : (getD rest 0 0 ≡ 0 → ⊥) → bodyOf (getD rest 0 0) s rest so ≡ Record n next → Goes s rest n next
+    unfolding bodyOf sizeOf
+    later-record n₀ body =
+        let n₁ = in-place (getD rest 0 0) so m .0 in
+        let b = sym (pick-ne _ _ n₀ ∙ pick-ne _ _ n₁) ∙ body in
+        ⊎-elim
+        (λ k₂. later-region k₂ (sym (pick-eq _ _ k₂) ∙ b))
+        (λ n₂.
+        ⊎-elim
+        (λ k₃. later-parameter k₃ (sym (pick-ne _ _ n₂ ∙ pick-eq _ _ k₃) ∙ b))
+        (λ n₃. later-item (pick-ne _ _ n₀ ∙ pick-ne _ _ n₁ ∙ pick-ne _ _ n₂ ∙ pick-ne _ _ n₃) (sym (pick-ne _ _ n₂ ∙ pick-ne _ _ n₃) ∙ b))
+        (eq-or-ne (getD rest 0 0) 3))
+        (eq-or-ne (getD rest 0 0) 2)
+
+  pub record-sound : recordOf s rest so ≡ Record n next → (getD rest 0 0 ≡ 0 → ⊥) → Goes s rest n next
+  unfolding recordOf
+  record-sound e n₀ =
+      let p₁ = passed _ bad-record e in
+      let p₂ = passed _ bad-record (p₁ .1) in
+      let p₃ = passed _ bad-record (p₂ .1) in
+      let p₄ = passed _ bad-record (p₃ .1) in
+      let l = eqb-false (length rest) 0 (p₁ .0) in
+      let f = st .fits in
+      let fits = ltb-false (length rest) (sizeOf (getD rest 0 0)) (p₄ .0) in
+      ⊎-elim
+      (λ z.
+      let t = eq-eqb (length rest) (length s) (omega (arith, z .0)) in
+      first-record (z .0) (z .1) (subst (λ (b : Bool). misplacedOf b (getD rest 0 0) so ≡ false) t (p₃ .0)) fits (p₄ .1))
+      (λ h.
+      let t = ne-eqb (length rest) (length s) (λ q. let k : ⊥ = omega (arith, h .0) in k) in
+      later-record (h .0) (h .1) (subst (λ (b : Bool). misplacedOf b (getD rest 0 0) so ≡ false) t (p₃ .0)) fits n₀ (p₄ .1))
+      (st .sound .begun)

@@ -1,0 +1,17 @@
+-- `sheet::walk::fault_at` meets its contract, case by case.
+use borrow.Author.Needs.{needs}
+use Rattle.sheet.specs.Walk.{faultAt}
+use Rattle.sheet.proofs.walk.fault_at.Statement.{statement}
+use Rattle.sheet.proofs.walk.fault_at.Tie as tie
+
+returns : tie.Need-returns
+unfolding faultAt
+returns c = rw (c .before .read .given .1)
+
+returns-2 : tie.Need-returns-2
+unfolding faultAt
+returns-2 c = rw (c .enum-told .given .1)
+
+pub fault-at-spec : {M : Type 1} → statement M
+fault-at-spec =
+    tie.close (tie.spec (λ c. search needs) (λ c. search needs) returns returns-2)
