@@ -4,3 +4,4 @@ pub mod Judged
 pub mod Steps
 pub mod Onward
 pub mod Walked
+pub mod Valid

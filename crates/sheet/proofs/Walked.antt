@@ -48,11 +48,10 @@ module _ (s rest : List ℕ) (so : Counts) where
       let l = part-falls n rest (length rest) refl (g .0) (g .1) in
       on f (omega arith) ∙ ap (λ (l : List ℕ). walkOf f s l next) (behind-part n rest) ∙ rw e (sym (pick-ne _ _ z))
 
-  -- the walk stands as well before the part behind a record
-  pub standing-on : (n : ℕ) (next : Counts) → Standing s rest so → Goes s rest n next → Standing s (partBehind n rest) next
-  standing-on n next st g =
-      rw (behind-part n rest)
-      (let l : length (drop n rest) ≡ length rest - n = length-drop n rest in
+  -- the walk stands as well before what is behind a record
+  pub standing-behind : (n : ℕ) (next : Counts) → Standing s rest so → Goes s rest n next → Standing s (drop n rest) next
+  standing-behind n next st g =
+      let l : length (drop n rest) ≡ length rest - n = length-drop n rest in
       let f = st .fits in
       let e : length s - length rest + n ≡ length s - length (drop n rest) = omega (arith, g .1) in
       record {
@@ -60,4 +59,7 @@ module _ (s rest : List ℕ) (so : Counts) where
         fits = omega arith;
         part = ap (drop n) (st .part) ∙ drop-drop n (length s - length rest) s ∙ ap (λ (i : ℕ). drop i s) e;
         sound = subst (λ (at : ℕ). Sound s at next) e (g .2);
-      })
+      }
+
+  pub standing-on : (n : ℕ) (next : Counts) → Standing s rest so → Goes s rest n next → Standing s (partBehind n rest) next
+  standing-on n next st g = rw (behind-part n rest) (standing-behind n next st g)

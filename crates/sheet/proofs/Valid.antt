@@ -1,0 +1,142 @@
+-- The laws of a valid sheet, which everything above uses.
+--     valid-sheet       what holds of a sheet with a layout
+--     valid-apart       its regions are ordered and apart
+--     valid-parameter   a parameter that was found has a size in range, and its span lies wholly in regions
+--     valid-item        an ID item that was found has a length in range
+use mathlib.Core.Bool.{Bool, true, false}
+use mathlib.Core.Logic.{⊎-elim}
+use mathlib.Core.Path.{_≡_, refl, sym, ap, subst, _∙_}
+use mathlib.Core.List.{List}
+use Prim.Native.Nat.{ℕ, zero, suc, _+_, _-_, _≤_}
+use native.Mathlib.Nat.{le-refl}
+use native.Mathlib.Omega.{arith}
+use borrow.Author.Tests.{eqb-true, eqb-false, ltb-false, eq-eqb, not-false}
+use lib.ListN.{length, getD, drop}
+use Rattle.octets.proofs.Cases.{eq-or-ne}
+use Rattle.octets.proofs.Pick.{passed, pick-eq, pick-ne}
+use Rattle.regions.specs.Apart.{Apart}
+use Rattle.regions.specs.Region.{regionsOf}
+use Rattle.sheet.specs.Entries.{parameterAt, parametersOf, itemAt, itemsOf, soughtParameter, soughtItem}
+use Rattle.sheet.specs.Kinds.{isLength, misplacedOf}
+use Rattle.sheet.specs.Reading.{recordOf}
+use Rattle.sheet.specs.Sound.{Sound, Standing, FineParameter, FineItem, behind}
+use Rattle.sheet.specs.Walk.{none, placeOf, layoutOf, endedOf, onward, walkOf, verdictOf}
+use Rattle.sheet.specs.declared.entries.Parameter.{Parameter}
+use Rattle.sheet.specs.declared.entries.Item.{Item}
+use Rattle.sheet.specs.declared.entries.SoughtParameter.{SoughtParameter}
+use Rattle.sheet.specs.declared.entries.SoughtItem.{SoughtItem}
+use Rattle.sheet.specs.declared.records.Counts.{Counts}
+use Rattle.sheet.specs.declared.records.Fault.{Fault}
+use Rattle.sheet.specs.declared.records.Reading.{Reading}
+use Rattle.sheet.specs.declared.records.Reading.the-variants.{Record, Bad}
+use Rattle.sheet.specs.declared.walk.Layout.{Layout}
+use Rattle.sheet.specs.declared.walk.Verdict.{Verdict}
+use Rattle.sheet.specs.declared.walk.Verdict.the-variants.{Valid, Faulty}
+use Rattle.sheet.proofs.Judged.{bad-record}
+use Rattle.sheet.proofs.Onward.{sound-apart, record-sound}
+use Rattle.sheet.proofs.Sought.{sought-keeps}
+use Rattle.sheet.proofs.Steps.{start-sound}
+use Rattle.sheet.proofs.Walked.{standing-behind}
+
+abbrev pub countsOf : Layout → Counts
+countsOf lay = record { regions = lay .regions; parameters = lay .parameters; items = lay .items; memory = lay .memory }
+
+pub record ValidSheet (s : List ℕ) (lay : Layout) : Type 0 where
+  pub l-length : isLength (lay .l) ≡ true
+  pub short : length s ≤ 2048
+  pub octets : length s ≡ behind (countsOf lay) + 1
+  pub sound : Sound s (behind (countsOf lay)) (countsOf lay)
+
+no-fault : {f : Fault} {p : ℕ} {lay : Layout} → Faulty f p ≡ Valid lay → ⊥
+no-fault e = let z : _≡_ {A = ℕ} 0 1 = cc in omega arith
+
+same-layout : {a b : Layout} → Valid a ≡ Valid b → a ≡ b
+same-layout e = cc
+
+module _ (s rest : List ℕ) (so : Counts) (st : Standing s rest so) (lay : Layout) where
+  -- at the end record: it is not the first, and it is the last octet
+  valid-end : (n : ℕ) (next : Counts) → recordOf s rest so ≡ Record n next → getD rest 0 0 ≡ 0 → endedOf s rest so ≡ Valid lay → ValidSheet s lay
+  unfolding recordOf endedOf layoutOf misplacedOf
+  valid-end n next e k v =
+      let p₁ = passed _ bad-record e in
+      let p₂ = passed _ bad-record (p₁ .1) in
+      let p₃ = passed _ bad-record (p₂ .1) in
+      let q = passed _ no-fault v in
+      let some = eqb-false (length rest) 0 (p₁ .0) in
+      let last = ltb-false 1 (length rest) (q .0) in
+      let f = st .fits in
+      ⊎-elim
+      (λ z.
+      let t = eq-eqb (length rest) (length s) (omega (arith, z .0)) in
+      let m = subst (λ (b : Bool). misplacedOf b (getD rest 0 0) so ≡ false) t (p₃ .0) in
+      let one = eqb-true (getD rest 0 0) 1 (not-false _ m) in
+      absurd (let w : ⊥ = omega arith in w))
+      (λ h.
+      subst (λ (l : Layout). ValidSheet s l) (same-layout (q .1)) (record {
+        l-length = h .1;
+        short = st .short;
+        octets = omega (arith, h .0);
+        sound = subst (λ (at : ℕ). Sound s at so) (h .0) (st .sound);
+      }))
+      (st .sound .begun)
+
+  -- the reading of one record, taken apart
+  valid-step : (read : Reading) (on : ℕ → Counts → Verdict) → recordOf s rest so ≡ read
+      → ((n : ℕ) (next : Counts) → recordOf s rest so ≡ Record n next → on n next ≡ Valid lay → ValidSheet s lay)
+      → onward read (placeOf s rest) on ≡ Valid lay → ValidSheet s lay
+  unfolding onward
+  valid-step (Bad fault) on e go v = absurd (no-fault v)
+  valid-step (Record n next) on e go v = go n next e v
+
+valid-walk : (f : ℕ) (s rest : List ℕ) (so : Counts) → Standing s rest so → (lay : Layout) → walkOf f s rest so ≡ Valid lay → ValidSheet s lay
+unfolding walkOf
+valid-walk zero s rest so st lay v = absurd (no-fault v)
+valid-walk (suc f) s rest so st lay v =
+    valid-step s rest so st lay (recordOf s rest so) _ refl
+    (λ n next e w.
+    ⊎-elim
+    (λ k. valid-end s rest so st lay n next e k (sym (pick-eq _ _ k) ∙ w))
+    (λ k.
+    valid-walk f s (drop n rest) next (standing-behind s rest so n next st (record-sound s rest so n next st e k)) lay (sym (pick-ne _ _ k) ∙ w))
+    (eq-or-ne (getD rest 0 0) 0))
+    v
+
+pub valid-sheet : (s : List ℕ) (lay : Layout) → verdictOf s ≡ Valid lay → ValidSheet s lay
+unfolding verdictOf
+valid-sheet s lay v =
+    let p = passed _ no-fault v in
+    let e : 0 ≡ length s - length s = omega arith in
+    valid-walk (suc (length s)) s s none
+    (record {
+      short = ltb-false 2048 (length s) (p .0);
+      fits = le-refl (length s);
+      part = ap (λ (i : ℕ). drop i s) e;
+      sound = subst (λ (i : ℕ). Sound s i none) e (start-sound s);
+    })
+    lay (p .1)
+
+module _ (s : List ℕ) (lay : Layout) (ok : ValidSheet s lay) where
+  pub valid-apart : Apart 0 (regionsOf s (lay .regions))
+  valid-apart = sound-apart s (behind (countsOf lay)) (countsOf lay) (ok .sound)
+
+  pub valid-parameter : (n : ℕ) (p : Parameter) → soughtParameter (parametersOf s (lay .regions) (lay .parameters)) n ≡ SoughtParameter.Found p
+      → FineParameter s (lay .regions) p
+  valid-parameter n p e =
+      sought-keeps (λ (x : Parameter). x .number) SoughtParameter.Found SoughtParameter.Missing
+      (λ (r : SoughtParameter). (x : Parameter) → r ≡ SoughtParameter.Found x → FineParameter s (lay .regions) x)
+      (parameterAt s (lay .regions)) 0 (lay .parameters) n
+      (λ x m. absurd (let z : _≡_ {A = ℕ} 0 1 = cc in let w : ⊥ = omega arith in w))
+      (λ i l u x m.
+      subst (λ (y : Parameter). FineParameter s (lay .regions) y) (let q : parameterAt s (lay .regions) i ≡ x = cc in q)
+      (ok .sound .parameters-fine i (omega arith)))
+      p e
+
+  pub valid-item : (n : ℕ) (i : Item) → soughtItem (itemsOf s (lay .regions) (lay .parameters) (lay .items)) n ≡ SoughtItem.Found i → FineItem i
+  valid-item n p e =
+      sought-keeps (λ (x : Item). x .code) SoughtItem.Found SoughtItem.Missing
+      (λ (r : SoughtItem). (x : Item) → r ≡ SoughtItem.Found x → FineItem x)
+      (itemAt s (lay .regions) (lay .parameters)) 0 (lay .items) n
+      (λ x m. absurd (let z : _≡_ {A = ℕ} 0 1 = cc in let w : ⊥ = omega arith in w))
+      (λ i l u x m.
+      subst (λ (y : Item). FineItem y) (let q : itemAt s (lay .regions) (lay .parameters) i ≡ x = cc in q) (ok .sound .items-fine i (omega arith)))
+      p e
