@@ -5,7 +5,6 @@ use mathlib.Core.Bool.{Bool, _||_}
 use lib.Dec.{eqb}
 use Rattle.octets.specs.Pick.{pick}
 use Rattle.link.specs.declared.state.Watch.{Watch}
-use Rattle.link.specs.declared.state.Latches.{Latches}
 use Rattle.link.specs.declared.state.LinkState.{LinkState}
 
 -- "On entry to link 3 MN is not known and RSN is 0; on leaving it those fields .. become 0"

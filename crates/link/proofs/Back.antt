@@ -1,0 +1,48 @@
+-- What is written reads back.
+--     read-back     the record of a valid state holds that state
+--     read-valid    a state that was read is valid
+--     written       over ten octets, writing a state leaves its record
+use mathlib.Core.Bool.{not}
+use mathlib.Core.Path.{_≡_, refl, ap, subst, _∙_}
+use mathlib.Core.List.{List}
+use Prim.Native.Nat.{ℕ}
+use native.Mathlib.Omega.{arith}
+use borrow.Author.Tests.{eq-eqb, eqb-true, not-false}
+use lib.ListN.{length}
+use Rattle.octets.proofs.Pick.{pick-no, passed}
+use Rattle.link.specs.Stored.{octetsOf, fieldsOf, stateOf, stored}
+use Rattle.link.specs.declared.state.LinkState.{LinkState}
+use Rattle.link.specs.declared.stored.Stored.the-variants.{State, Invalid}
+use Rattle.link.proofs.Facts.{Facts, valid-facts, facts-valid}
+
+no-state : {st : LinkState} → Invalid ≡ State st → ⊥
+no-state e = let z : _≡_ {A = ℕ} 0 1 = cc in omega arith
+
+same-state : {a b : LinkState} → State a ≡ State b → a ≡ b
+same-state e = cc
+
+pub fields-back : (st : LinkState) → fieldsOf (octetsOf st) ≡ st
+unfolding fieldsOf octetsOf
+fields-back st = refl
+
+pub record-length : (st : LinkState) → length (octetsOf st) ≡ 10
+unfolding octetsOf
+record-length st = refl
+
+pub read-back : (st : LinkState) (l : ℕ) → Facts l st → stateOf (octetsOf st) l ≡ State st
+unfolding stateOf octetsOf fieldsOf
+read-back st l v = pick-no _ _ refl ∙ pick-no _ _ refl ∙ pick-no _ _ (ap not (facts-valid st l v))
+
+pub written : (s : List ℕ) (st : LinkState) → length s ≡ 10 → stored s st ≡ octetsOf st
+unfolding stored
+written s st e = pick-no _ _ (ap not (eq-eqb (length s) 10 e))
+
+-- a state that was read is valid, and its record has ten octets
+pub read-valid : (s : List ℕ) (l : ℕ) (st : LinkState) → stateOf s l ≡ State st → (length s ≡ 10) × Facts l st
+unfolding stateOf
+read-valid s l st e =
+    let p₁ = passed _ no-state e in
+    let p₂ = passed _ no-state (p₁ .1) in
+    let p₃ = passed _ no-state (p₂ .1) in
+    let q : fieldsOf s ≡ st = same-state (p₃ .1) in
+    (eqb-true (length s) 10 (not-false _ (p₁ .0)), subst (λ (x : LinkState). Facts l x) q (valid-facts (fieldsOf s) l (not-false _ (p₃ .0))))
