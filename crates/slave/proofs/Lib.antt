@@ -1,0 +1,2 @@
+-- The laws of the slave's calls.
+pub mod Order

@@ -1,0 +1,2 @@
+-- What a C host is told.
+pub mod Packed
