@@ -88,11 +88,12 @@ valid-facts st l v =
       single = λ n. eqb-true (st .dual) 0 (other (eqb (st .link) 3) _ (a₅ .1) (ne-eqb (st .link) 3 n));
       doubled = λ n. leb-true 2 t (other (eqb (st .dual) 0) _ (a₄ .1) (ne-eqb (st .dual) 0 n));
       unwatched = λ n.
-        let q = both (eqb (w .known) 0 && eqb (w .last) 0) _ (other (eqb (st .link) 3) _ (a₃ .1) (ne-eqb (st .link) 3 n)) in
-        let z = zeros₂ (w .known) (w .last) (q .0) in
-        (z .0, z .1, eqb-true (w .rsn) 0 (q .1));
+          let q = both (eqb (w .known) 0 && eqb (w .last) 0) _ (other (eqb (st .link) 3) _ (a₃ .1) (ne-eqb (st .link) 3 n)) in
+          let z = zeros₂ (w .known) (w .last) (q .0) in
+          (z .0, z .1, eqb-true (w .rsn) 0 (q .1));
       unknown = λ n. zeros₂ (w .last) (w .rsn) (other (leb 1 (w .known)) _ (a₂ .1) (lt-leb 1 (w .known) n));
-      silent = λ n. zeros₂ (h .command) (h .communication) (other (leb 1 (st .link)) _ (a₁ .1) (lt-leb 1 (st .link) n)) }
+      silent = λ n. zeros₂ (h .command) (h .communication) (other (leb 1 (st .link)) _ (a₁ .1) (lt-leb 1 (st .link) n));
+    }
 
 pub facts-valid : (st : LinkState) (l : ℕ) → Facts l st → validOf st l ≡ true
 unfolding validOf inRange agrees
@@ -110,7 +111,7 @@ facts-valid st l v =
     (either (eqb (st .link) 3) _ (λ f. eq-eqb (st .dual) 0 (v .single (eqb-false (st .link) 3 f)))))
     (either (eqb (st .dual) 0) _ (λ f. le-leb 2 t (v .doubled (eqb-false (st .dual) 0 f)))))
     (either (eqb (st .link) 3) _ (λ f.
-      let z = v .unwatched (eqb-false (st .link) 3 f) in
-      and-of (and-of (eq-eqb (w .known) 0 (z .0)) (eq-eqb (w .last) 0 (z .1))) (eq-eqb (w .rsn) 0 (z .2)))))
+    let z = v .unwatched (eqb-false (st .link) 3 f) in
+    and-of (and-of (eq-eqb (w .known) 0 (z .0)) (eq-eqb (w .last) 0 (z .1))) (eq-eqb (w .rsn) 0 (z .2)))))
     (either (leb 1 (w .known)) _ (λ f. two-zeros (v .unknown (leb-false 1 (w .known) f)))))
     (either (leb 1 (st .link)) _ (λ f. two-zeros (v .silent (leb-false 1 (st .link) f)))))

@@ -24,73 +24,177 @@ twelve-fault = refl
 
 pub fresh-valid : (l : ℕ) → Facts l (fresh l)
 fresh-valid l = record {
-    length = refl; link = omega arith; dual = omega arith; known = omega arith; last = omega arith; rsn = omega arith;
-    command = zero-alarm; communication = zero-fault;
-    timed = λ n. omega arith; untimed = λ n. refl; single = λ n. refl; doubled = λ n. absurd (n refl);
-    unwatched = λ n. (refl, refl, refl); unknown = λ n. (refl, refl); silent = λ n. (refl, refl) }
+  length = refl;
+  link = omega arith;
+  dual = omega arith;
+  known = omega arith;
+  last = omega arith;
+  rsn = omega arith;
+  command = zero-alarm;
+  communication = zero-fault;
+  timed = λ n. omega arith;
+  untimed = λ n. refl;
+  single = λ n. refl;
+  doubled = λ n. absurd (n refl);
+  unwatched = λ n. (refl, refl, refl);
+  unknown = λ n. (refl, refl);
+  silent = λ n. (refl, refl);
+}
 
 module _ (l : ℕ) (st : LinkState) (v : Facts l st) where
   pub enabled-valid : st .link ≡ 0 → Facts l (enabled st)
   enabled-valid e = record {
-      length = v .length; link = omega arith; dual = v .dual; known = v .known; last = v .last; rsn = v .rsn;
-      command = v .command; communication = v .communication;
-      timed = λ n. omega arith; untimed = λ n. v .untimed (omega arith);
-      single = λ n. v .single (λ f. let k : ⊥ = omega arith in k); doubled = v .doubled;
-      unwatched = λ n. v .unwatched (λ f. let k : ⊥ = omega arith in k); unknown = v .unknown;
-      silent = λ n. v .silent (omega arith) }
+    length = v .length;
+    link = omega arith;
+    dual = v .dual;
+    known = v .known;
+    last = v .last;
+    rsn = v .rsn;
+    command = v .command;
+    communication = v .communication;
+    timed = λ n. omega arith;
+    untimed = λ n. v .untimed (omega arith);
+    single = λ n. v .single (λ f. let k : ⊥ = omega arith in k);
+    doubled = v .doubled;
+    unwatched = λ n. v .unwatched (λ f. let k : ⊥ = omega arith in k);
+    unknown = v .unknown;
+    silent = λ n. v .silent (omega arith);
+  }
 
   -- into AsyncConnected with single transfer, or into SyncConnected
   pub connected-valid : (link dual time : ℕ) → 2 ≤ link → link ≤ 3 → dual ≤ 1 → 1 ≤ time → (dual ≡ 1 → (link ≡ 3) × (2 ≤ time))
       → Facts l (connected st link dual time)
   connected-valid link dual time lo hi d t both = record {
-      length = v .length; link = hi; dual = d; known = omega arith; last = omega arith; rsn = omega arith;
-      command = v .command; communication = v .communication;
-      timed = λ n. t; untimed = λ n. omega arith;
-      single = λ n. by-cases (λ e. absurd (n (both e .0)));
-      doubled = λ n. both (omega arith) .1;
-      unwatched = λ n. (refl, refl, refl); unknown = λ n. (refl, refl); silent = λ n. absurd (let k : ⊥ = omega arith in k) }
+    length = v .length;
+    link = hi;
+    dual = d;
+    known = omega arith;
+    last = omega arith;
+    rsn = omega arith;
+    command = v .command;
+    communication = v .communication;
+    timed = λ n. t;
+    untimed = λ n. omega arith;
+    single = λ n. by-cases (λ e. absurd (n (both e .0)));
+    doubled = λ n. both (omega arith) .1;
+    unwatched = λ n. (refl, refl, refl);
+    unknown = λ n. (refl, refl);
+    silent = λ n. absurd (let k : ⊥ = omega arith in k);
+  }
     where
       by-cases : (dual ≡ 1 → ⊥) → dual ≡ 0
       by-cases f = omega arith
 
   pub synced-valid : 2 ≤ st .link → Facts l (synced st)
   synced-valid h = record {
-      length = v .length; link = omega arith; dual = omega arith; known = omega arith; last = omega arith; rsn = omega arith;
-      command = v .command; communication = v .communication;
-      timed = λ n. v .timed h; untimed = λ n. absurd (let k : ⊥ = omega arith in k); single = λ n. refl; doubled = λ n. absurd (n refl);
-      unwatched = λ n. (refl, refl, refl); unknown = λ n. (refl, refl); silent = λ n. absurd (let k : ⊥ = omega arith in k) }
+    length = v .length;
+    link = omega arith;
+    dual = omega arith;
+    known = omega arith;
+    last = omega arith;
+    rsn = omega arith;
+    command = v .command;
+    communication = v .communication;
+    timed = λ n. v .timed h;
+    untimed = λ n. absurd (let k : ⊥ = omega arith in k);
+    single = λ n. refl;
+    doubled = λ n. absurd (n refl);
+    unwatched = λ n. (refl, refl, refl);
+    unknown = λ n. (refl, refl);
+    silent = λ n. absurd (let k : ⊥ = omega arith in k);
+  }
 
   pub dropped-valid : Facts l (dropped st)
   dropped-valid = record {
-      length = v .length; link = omega arith; dual = omega arith; known = omega arith; last = omega arith; rsn = omega arith;
-      command = v .command; communication = v .communication;
-      timed = λ n. omega arith; untimed = λ n. refl; single = λ n. refl; doubled = λ n. absurd (n refl);
-      unwatched = λ n. (refl, refl, refl); unknown = λ n. (refl, refl); silent = λ n. absurd (let k : ⊥ = omega arith in k) }
+    length = v .length;
+    link = omega arith;
+    dual = omega arith;
+    known = omega arith;
+    last = omega arith;
+    rsn = omega arith;
+    command = v .command;
+    communication = v .communication;
+    timed = λ n. omega arith;
+    untimed = λ n. refl;
+    single = λ n. refl;
+    doubled = λ n. absurd (n refl);
+    unwatched = λ n. (refl, refl, refl);
+    unknown = λ n. (refl, refl);
+    silent = λ n. absurd (let k : ⊥ = omega arith in k);
+  }
 
   pub lost-valid : 2 ≤ st .link → Facts l (lost st)
   lost-valid h = record {
-      length = v .length; link = omega arith; dual = omega arith; known = omega arith; last = omega arith; rsn = omega arith;
-      command = v .command; communication = twelve-fault;
-      timed = λ n. v .timed h; untimed = λ n. absurd (let k : ⊥ = omega arith in k); single = λ n. refl; doubled = λ n. absurd (n refl);
-      unwatched = λ n. (refl, refl, refl); unknown = λ n. (refl, refl); silent = λ n. absurd (let k : ⊥ = omega arith in k) }
+    length = v .length;
+    link = omega arith;
+    dual = omega arith;
+    known = omega arith;
+    last = omega arith;
+    rsn = omega arith;
+    command = v .command;
+    communication = twelve-fault;
+    timed = λ n. v .timed h;
+    untimed = λ n. absurd (let k : ⊥ = omega arith in k);
+    single = λ n. refl;
+    doubled = λ n. absurd (n refl);
+    unwatched = λ n. (refl, refl, refl);
+    unknown = λ n. (refl, refl);
+    silent = λ n. absurd (let k : ⊥ = omega arith in k);
+  }
 
   pub latched-valid : (alarm : ℕ) → isCommandAlarm alarm ≡ true → 1 ≤ st .link → Facts l (latched st alarm)
   latched-valid alarm a h = record {
-      length = v .length; link = v .link; dual = v .dual; known = v .known; last = v .last; rsn = v .rsn;
-      command = pick-both (λ (x : ℕ). isCommandAlarm x ≡ true) (eqb (st .latches .command) 0) a (v .command); communication = v .communication;
-      timed = v .timed; untimed = v .untimed; single = v .single; doubled = v .doubled;
-      unwatched = v .unwatched; unknown = v .unknown; silent = λ n. absurd (let k : ⊥ = omega arith in k) }
+    length = v .length;
+    link = v .link;
+    dual = v .dual;
+    known = v .known;
+    last = v .last;
+    rsn = v .rsn;
+    command = pick-both (λ (x : ℕ). isCommandAlarm x ≡ true) (eqb (st .latches .command) 0) a (v .command);
+    communication = v .communication;
+    timed = v .timed;
+    untimed = v .untimed;
+    single = v .single;
+    doubled = v .doubled;
+    unwatched = v .unwatched;
+    unknown = v .unknown;
+    silent = λ n. absurd (let k : ⊥ = omega arith in k);
+  }
 
   pub cleared-valid : Facts l (cleared st)
   cleared-valid = record {
-      length = v .length; link = v .link; dual = v .dual; known = v .known; last = v .last; rsn = v .rsn;
-      command = zero-alarm; communication = zero-fault;
-      timed = v .timed; untimed = v .untimed; single = v .single; doubled = v .doubled;
-      unwatched = v .unwatched; unknown = v .unknown; silent = λ n. (refl, refl) }
+    length = v .length;
+    link = v .link;
+    dual = v .dual;
+    known = v .known;
+    last = v .last;
+    rsn = v .rsn;
+    command = zero-alarm;
+    communication = zero-fault;
+    timed = v .timed;
+    untimed = v .untimed;
+    single = v .single;
+    doubled = v .doubled;
+    unwatched = v .unwatched;
+    unknown = v .unknown;
+    silent = λ n. (refl, refl);
+  }
 
   pub counted-valid : (mn : ℕ) → mn ≤ 15 → st .link ≡ 3 → Facts l (counted st mn)
   counted-valid mn m h = record {
-      length = v .length; link = v .link; dual = v .dual; known = omega arith; last = m; rsn = omega arith;
-      command = v .command; communication = v .communication;
-      timed = v .timed; untimed = v .untimed; single = v .single; doubled = v .doubled;
-      unwatched = λ n. absurd (n h); unknown = λ n. absurd (let k : ⊥ = omega arith in k); silent = v .silent }
+    length = v .length;
+    link = v .link;
+    dual = v .dual;
+    known = omega arith;
+    last = m;
+    rsn = omega arith;
+    command = v .command;
+    communication = v .communication;
+    timed = v .timed;
+    untimed = v .untimed;
+    single = v .single;
+    doubled = v .doubled;
+    unwatched = λ n. absurd (n h);
+    unknown = λ n. absurd (let k : ⊥ = omega arith in k);
+    silent = v .silent;
+  }

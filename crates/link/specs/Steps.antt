@@ -22,17 +22,35 @@ fresh l = record { link = 0; l = l; dual = 0; «com_time» = 0; watch = idle; la
 -- "Enable turns Disabled into Disconnected"
 abbrev pub enabled : LinkState → LinkState
 enabled st = record {
-    link = 1; l = st .l; dual = st .dual; «com_time» = st .«com_time»; watch = st .watch; latches = st .latches }
+  link = 1;
+  l = st .l;
+  dual = st .dual;
+  «com_time» = st .«com_time»;
+  watch = st .watch;
+  latches = st .latches;
+}
 
 -- CONNECT: "com_time and dual set; link 3 if bit 1 of com_mod, else 2"
 abbrev pub connected : LinkState → ℕ → ℕ → ℕ → LinkState
 connected st link dual time = record {
-    link = link; l = st .l; dual = dual; «com_time» = time; watch = idle; latches = st .latches }
+  link = link;
+  l = st .l;
+  dual = dual;
+  «com_time» = time;
+  watch = idle;
+  latches = st .latches;
+}
 
 -- SYNC_SET: "link 3, single transfer"
 abbrev pub synced : LinkState → LinkState
 synced st = record {
-    link = 3; l = st .l; dual = 0; «com_time» = st .«com_time»; watch = idle; latches = st .latches }
+  link = 3;
+  l = st .l;
+  dual = 0;
+  «com_time» = st .«com_time»;
+  watch = idle;
+  latches = st .latches;
+}
 
 -- DISCONNECT: "link 1, com_time 0, latches kept"
 abbrev pub dropped : LinkState → LinkState
@@ -41,14 +59,24 @@ dropped st = record { link = 1; l = st .l; dual = 0; «com_time» = 0; watch = i
 -- a failed watchdog: "the communication latch becomes 12, .. the link becomes 2"; "on leaving [link 3] those fields and dual become 0"
 abbrev pub lost : LinkState → LinkState
 lost st = record {
-    link = 2; l = st .l; dual = 0; «com_time» = st .«com_time»; watch = idle;
-    latches = record { command = st .latches .command; communication = 12 } }
+  link = 2;
+  l = st .l;
+  dual = 0;
+  «com_time» = st .«com_time»;
+  watch = idle;
+  latches = record { command = st .latches .command; communication = 12 };
+}
 
 -- the state with another command latch
 abbrev pub withCommand : LinkState → ℕ → LinkState
 withCommand st alarm = record {
-    link = st .link; l = st .l; dual = st .dual; «com_time» = st .«com_time»; watch = st .watch;
-    latches = record { command = alarm; communication = st .latches .communication } }
+  link = st .link;
+  l = st .l;
+  dual = st .dual;
+  «com_time» = st .«com_time»;
+  watch = st .watch;
+  latches = record { command = alarm; communication = st .latches .communication };
+}
 
 -- "stores its alarm in the command latch if that is 0"
 abbrev pub latched : LinkState → ℕ → LinkState
@@ -57,12 +85,21 @@ latched st alarm = withCommand st (pick (eqb (st .latches .command) 0) alarm (st
 -- ALM_CLR: "both latches 0"
 abbrev pub cleared : LinkState → LinkState
 cleared st = record {
-    link = st .link; l = st .l; dual = st .dual; «com_time» = st .«com_time»; watch = st .watch;
-    latches = record { command = 0; communication = 0 } }
+  link = st .link;
+  l = st .l;
+  dual = st .dual;
+  «com_time» = st .«com_time»;
+  watch = st .watch;
+  latches = record { command = 0; communication = 0 };
+}
 
 -- "stores MN as known and adds 1 to RSN modulo 16"
 abbrev pub counted : LinkState → ℕ → LinkState
 counted st mn = record {
-    link = st .link; l = st .l; dual = st .dual; «com_time» = st .«com_time»;
-    watch = record { known = 1; last = mn; rsn = (st .watch .rsn + 1) % 16 };
-    latches = st .latches }
+  link = st .link;
+  l = st .l;
+  dual = st .dual;
+  «com_time» = st .«com_time»;
+  watch = record { known = 1; last = mn; rsn = (st .watch .rsn + 1) % 16 };
+  latches = st .latches;
+}

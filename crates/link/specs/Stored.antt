@@ -20,9 +20,13 @@ octetsOf st =
 -- the fields of a record
 unfoldable pub fieldsOf : List ℕ → LinkState
 fieldsOf s = record {
-    link = getD s 1 0; l = getD s 2 0; dual = getD s 3 0; «com_time» = getD s 4 0;
-    watch = record { known = getD s 5 0; last = getD s 6 0; rsn = getD s 7 0 };
-    latches = record { command = getD s 8 0; communication = getD s 9 0 } }
+  link = getD s 1 0;
+  l = getD s 2 0;
+  dual = getD s 3 0;
+  «com_time» = getD s 4 0;
+  watch = record { known = getD s 5 0; last = getD s 6 0; rsn = getD s 7 0 };
+  latches = record { command = getD s 8 0; communication = getD s 9 0 };
+}
 
 -- the state that a record holds beside a sheet with this L
 unfoldable pub stateOf : List ℕ → ℕ → Stored

@@ -3,8 +3,11 @@ ghost use mathlib.Core.Path.{_≡_};
 ghost use Rattle.link.specs.Steps.{idle, followsOf, fresh, enabled, connected, synced, dropped, lost, latched, cleared, counted};
 
 pub const DISABLED: u8 = 0;
+
 pub const DISCONNECTED: u8 = 1;
+
 pub const ASYNC_CONNECTED: u8 = 2;
+
 pub const SYNC_CONNECTED: u8 = 3;
 
 // The watchdog's fields: whether MN is known, the last MN, and RSN.

@@ -1,5 +1,7 @@
 // The state record: ten octets, read whole and written whole.
-use crate::state::{Latches, LinkState, Watch};
+use crate::state::Latches;
+use crate::state::LinkState;
+use crate::state::Watch;
 ghost use mathlib.Core.Path.{_≡_};
 ghost use Prim.Native.Nat.{_≤_};
 ghost use lib.ListN.{length};

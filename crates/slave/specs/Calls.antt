@@ -24,14 +24,14 @@ unfoldable pub resetOf : List ℕ → List ℕ → After
 resetOf sheet state =
     onSheet (verdictOf sheet) (λ refusal. after refusal state)
     (λ layout.
-      pick (not (eqb (length state) 10)) (after (told 1 0) state)
-      (after (told 0 0) (octetsOf (fresh (layout .l)))))
+    pick (not (eqb (length state) 10)) (after (told 1 0) state)
+    (after (told 0 0) (octetsOf (fresh (layout .l)))))
 
 unfoldable pub enableOf : List ℕ → List ℕ → After
 enableOf sheet state =
     onSheet (verdictOf sheet) (λ refusal. after refusal state)
     (λ layout.
-      onState (stateOf state (layout .l)) (after (told 1 0) state)
-      (λ st.
-        pick (not (eqb (st .link) 0)) (after (told 6 0) state)
-        (after (told 0 0) (octetsOf (enabled st)))))
+    onState (stateOf state (layout .l)) (after (told 1 0) state)
+    (λ st.
+    pick (not (eqb (st .link) 0)) (after (told 6 0) state)
+    (after (told 0 0) (octetsOf (enabled st)))))

@@ -9,7 +9,9 @@ pub struct Answer {
 }
 
 pub const DONE: u8 = 0;
+
 pub const BAD_STATE: u8 = 1;
+
 pub const NOT_DISABLED: u8 = 6;
 
 // A number without a place.

@@ -1,0 +1,2 @@
+-- The proofs of what the owner reads.
+pub mod Bench

@@ -1,0 +1,2 @@
+-- What the owner reads.
+pub mod Bench

@@ -1,0 +1,1 @@
+// No function: what the owner reads stands in specs/, and its proofs in proofs/.
