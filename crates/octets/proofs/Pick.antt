@@ -3,10 +3,12 @@
 --     pick-lt, pick-ge, pick-le, pick-gt   a test by ltb or leb
 --     pick-eq, pick-ne                     a test by eqb
 --     pick-key                             a test by eqb on a number that is known to be another
+--     pick-differ, pick-same               a test that two numbers differ
+--     pick-failed, pick-held               a test that a callee's answer is not true
 --     pick-both                            what both arms have, the picked one has
 --     passed                               a pick whose first arm is not what came out: its test failed, and the second arm came out
-use mathlib.Core.Bool.{Bool, true, false}
-use mathlib.Core.Path.{_≡_, refl, ap, _∙_}
+use mathlib.Core.Bool.{Bool, true, false, not}
+use mathlib.Core.Path.{_≡_, refl, sym, ap, _∙_}
 use Prim.Native.Nat.{ℕ, _<_, _≤_}
 use borrow.Author.Tests.{lt-ltb, le-ltb, le-leb, lt-leb, eq-eqb, ne-eqb}
 use lib.Dec.{ltb, leb, eqb}
@@ -41,6 +43,18 @@ module _ {ℓ} {A : Type ℓ} where
 
   pub pick-key : {m k : ℕ} (j : ℕ) (x y : A) → m ≡ k → eqb k j ≡ false → pick (eqb m j) x y ≡ y
   pick-key j x y e n = pick-no x y (ap (λ (i : ℕ). eqb i j) e ∙ n)
+
+  pub pick-differ : {m n : ℕ} (x y : A) → (m ≡ n → ⊥) → pick (not (eqb m n)) x y ≡ x
+  pick-differ {m} {n} x y h = pick-yes x y (ap not (ne-eqb m n h))
+
+  pub pick-same : {m n : ℕ} (x y : A) → m ≡ n → pick (not (eqb m n)) x y ≡ y
+  pick-same {m} {n} x y h = pick-no x y (ap not (eq-eqb m n h))
+
+  pub pick-failed : {b r : Bool} (x y : A) → r ≡ b → not r ≡ true → pick (not b) x y ≡ x
+  pick-failed x y e t = pick-yes x y (ap not (sym e) ∙ t)
+
+  pub pick-held : {b r : Bool} (x y : A) → r ≡ b → not r ≡ false → pick (not b) x y ≡ y
+  pick-held x y e t = pick-no x y (ap not (sym e) ∙ t)
 
   pub pick-both : (P : A → Type 0) (b : Bool) {x y : A} → P x → P y → P (pick b x y)
   unfolding pick

@@ -1,0 +1,39 @@
+-- One exchange around checks 2 to 5: check 1, the latches and the watchdog.
+use Prim.Native.Nat.{ℕ, _%_}
+use mathlib.Core.Bool.{not, _&&_}
+use mathlib.Core.List.{List}
+use lib.Dec.{eqb}
+use Rattle.octets.specs.Pick.{pick}
+use Rattle.link.specs.Steps.{followsOf, lost, latched, counted}
+use Rattle.link.specs.declared.state.LinkState.{LinkState}
+use Rattle.sheet.specs.declared.walk.Layout.{Layout}
+use Rattle.machine.specs.Judging.{judgeOf}
+use Rattle.machine.specs.declared.words.Command.{Command}
+use Rattle.machine.specs.declared.words.Effect.{Effect}
+use Rattle.machine.specs.declared.words.Effect.the-variants.{Quiet}
+use Rattle.machine.specs.declared.words.Judgement.{Judgement}
+use Rattle.machine.specs.declared.words.Judgement.the-variants.{Refused, Accepted}
+use Rattle.machine.specs.declared.words.Outcome.{Outcome}
+
+abbrev pub comesTo : ℕ → Effect → LinkState → Outcome
+comesTo alarm effect next = record { alarm = alarm; effect = effect; next = next }
+
+-- MN is the low half of WDT
+abbrev pub mnOf : Command → ℕ
+mnOf c = c .wdt % 16
+
+-- "An exchange that begins and ends in link 3 stores MN as known and adds 1 to RSN modulo 16, refused or not."
+unfoldable pub counting : LinkState → LinkState → ℕ → LinkState
+counting before st mn = pick (eqb (before .link) 3 && eqb (st .link) 3) (counted st mn) st
+
+-- a refused command latches its alarm and does nothing; an accepted one has alarm 0
+unfoldable pub finished : LinkState → Command → Judgement → Outcome
+finished st c (Refused alarm) = comesTo alarm Quiet (counting st (latched st alarm) (mnOf c))
+finished st c (Accepted effect next) = comesTo 0 effect (counting st next (mnOf c))
+
+-- "1. Link 3 with MN known: MN must be last MN plus 1, modulo 16. If not, nothing is executed, the body is zero, the communication latch becomes
+-- 12, the command alarm is 0, the link becomes 2."
+unfoldable pub outcomeOf : List ℕ → Layout → LinkState → Command → Outcome
+outcomeOf s lay st c =
+    pick (eqb (st .link) 3 && not (followsOf (st .watch) (c .wdt))) (comesTo 0 Quiet (lost st))
+    (finished st c (judgeOf s lay st c))

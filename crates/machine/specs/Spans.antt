@@ -1,0 +1,44 @@
+-- Checks 4 and 5 over a span of memory: "all n octets in regions" (alarm 9), then "Rights over the whole span: alarm 10".
+use Prim.Native.Nat.{ℕ}
+use mathlib.Core.Bool.{Bool, true, false, not}
+use mathlib.Core.List.{List}
+use lib.Dec.{eqb}
+use Rattle.octets.specs.Pick.{pick}
+use Rattle.link.specs.declared.state.LinkState.{LinkState}
+use Rattle.regions.specs.Search.{spotOf, spanHas}
+use Rattle.regions.specs.declared.Region.{Region}
+use Rattle.regions.specs.declared.Right.{Right}
+use Rattle.regions.specs.declared.Right.the-variants.{Mapped, Read, WriteAsync, WriteSync}
+use Rattle.regions.specs.declared.search.Spot.{Spot}
+use Rattle.regions.specs.declared.search.Spot.the-variants.{At, Nowhere}
+use Rattle.machine.specs.declared.words.Carrier.{Carrier}
+use Rattle.machine.specs.declared.words.Effect.{Effect}
+use Rattle.machine.specs.declared.words.Effect.the-variants.{Reads, Writes}
+use Rattle.machine.specs.declared.words.Judgement.{Judgement}
+use Rattle.machine.specs.declared.words.Judgement.the-variants.{Refused, Accepted}
+
+-- the right that a read or a write asks: a write bit 1 in AsyncConnected and bit 2 in SyncConnected, by the link before the exchange
+unfoldable pub rightOf : Bool → ℕ → Right
+rightOf false link = Read
+rightOf true link = pick (eqb link 3) WriteSync WriteAsync
+
+-- n octets at a place are read, or written
+unfoldable pub moved : Bool → Carrier → ℕ → ℕ → Effect
+moved false by place n = Reads by place n
+moved true by place n = Writes by place n
+
+-- the place of a span in the memory is that of its first octet
+unfoldable pub placeIn : Spot → ℕ
+placeIn (At place rights) = place
+placeIn Nowhere = 0
+
+-- the place of the octet at an address, among these regions
+abbrev pub spanPlace : List Region → ℕ → ℕ
+spanPlace rs a = placeIn (spotOf rs 0 a)
+
+-- n octets from address a on are asked to be read, or to be written, for a parameter or a memory command
+unfoldable pub spanOf : Bool → List Region → Carrier → ℕ → ℕ → LinkState → Judgement
+spanOf writes rs by a n st =
+    pick (not (spanHas rs Mapped a n)) (Refused 9)
+    (pick (not (spanHas rs (rightOf writes (st .link)) a n)) (Refused 10)
+    (Accepted (moved writes by (spanPlace rs a) n) st))

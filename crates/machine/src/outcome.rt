@@ -1,0 +1,53 @@
+// One exchange around checks 2 to 5: check 1, the latches and the watchdog.
+use crate::words::Command;
+use crate::words::Effect;
+use crate::words::Judgement;
+use crate::words::Outcome;
+use link::state::LinkState;
+use sheet::walk::Layout;
+ghost use mathlib.Core.Path.{_≡_};
+ghost use Rattle.machine.specs.Outcomes.{counting, finished, outcomeOf};
+
+// An exchange that begins and ends in SyncConnected counts.
+fn count(before: LinkState, st: LinkState, mn: u8) -> LinkState
+    ensures { λ r. ⌜ r ≡ counting before st mn ⌝ }
+{
+    if (before.link == link::state::SYNC_CONNECTED) & (st.link == link::state::SYNC_CONNECTED) {
+        return st.counted(mn);
+    }
+    st
+}
+
+// A judgement with its latch and its count.
+fn finish(st: LinkState, c: Command, judgement: Judgement) -> Outcome
+    ensures { λ r. ⌜ r ≡ finished st c judgement ⌝ }
+{
+    let mn = c.wdt % 16;
+    match judgement {
+        Judgement::Refused(alarm) => Outcome {
+            alarm,
+            effect: Effect::Quiet,
+            next: count(st, st.latched(alarm), mn),
+        },
+        Judgement::Accepted(effect, next) => Outcome {
+            alarm: 0,
+            effect,
+            next: count(st, next, mn),
+        },
+    }
+}
+
+// What an exchange comes to.
+pub fn outcome(sheet: &[u8], layout: Layout, st: LinkState, c: Command) -> Outcome
+    ensures { λ r. ⌜ r ≡ outcomeOf (now (sheet .entry)) layout st c ⌝ }
+{
+    let watch = st.watch;
+    if (st.link == link::state::SYNC_CONNECTED) & !watch.follows(c.wdt) {
+        return Outcome {
+            alarm: 0,
+            effect: Effect::Quiet,
+            next: st.lost(),
+        };
+    }
+    finish(st, c, crate::judging::judge(sheet, layout, st, c))
+}

@@ -1,0 +1,77 @@
+// Checks 4 and 5 over a span of memory, the same for parameters and for memory.
+use crate::codes::NO_RIGHT;
+use crate::codes::OUT_OF_RANGE;
+use crate::words::Carrier;
+use crate::words::Effect;
+use crate::words::Judgement;
+use link::state::LinkState;
+use regions::Right;
+use regions::search::Spot;
+ghost use mathlib.Core.Path.{_≡_};
+ghost use Rattle.regions.specs.Region.{regionsOf};
+ghost use Rattle.regions.specs.Search.{spanHas};
+ghost use Rattle.machine.specs.Spans.{rightOf, moved, spanPlace, spanOf};
+
+// Whether every octet of a span has the right.
+fn has(sheet: &[u8], regions: u8, right: Right, address: u32, size: u8) -> bool
+    ensures { λ r. ⌜ r ≡ spanHas (regionsOf (now (sheet .entry)) regions) right address size ⌝ }
+{
+    regions::search::before(sheet, regions, right, address, size) == size
+}
+
+// The memory place of a span's first octet; 0 where no region has it.
+fn place_of(sheet: &[u8], regions: u8, address: u32) -> u64
+    ensures { λ r. ⌜ r ≡ spanPlace (regionsOf (now (sheet .entry)) regions) address ⌝ }
+{
+    match regions::search::spot_at(sheet, regions, address as u64) {
+        Spot::At(place, _) => place,
+        Spot::Nowhere => 0,
+    }
+}
+
+// The right that a read or a write asks in a link.
+fn right_of(writes: bool, link: u8) -> Right
+    ensures { λ r. ⌜ r ≡ rightOf writes link ⌝ }
+{
+    if !writes {
+        return Right::Read;
+    }
+    if link == link::state::SYNC_CONNECTED {
+        return Right::WriteSync;
+    }
+    Right::WriteAsync
+}
+
+// The octets at a place, read or written.
+fn moves(writes: bool, by: Carrier, place: u64, size: u8) -> Effect
+    ensures { λ r. ⌜ r ≡ moved writes by place size ⌝ }
+{
+    if writes {
+        return Effect::Writes(by, place, size);
+    }
+    Effect::Reads(by, place, size)
+}
+
+// A span asked to be read, or to be written: all of it mapped, then all of it with the right.
+pub fn span(
+    writes: bool,
+    sheet: &[u8],
+    regions: u8,
+    by: Carrier,
+    address: u32,
+    size: u8,
+    st: LinkState,
+) -> Judgement
+    ensures { λ r. ⌜ r ≡ spanOf writes (regionsOf (now (sheet .entry)) regions) by address size st ⌝ }
+{
+    if !has(sheet, regions, Right::Mapped, address, size) {
+        return Judgement::Refused(OUT_OF_RANGE);
+    }
+    if !has(sheet, regions, right_of(writes, st.link), address, size) {
+        return Judgement::Refused(NO_RIGHT);
+    }
+    Judgement::Accepted(
+        moves(writes, by, place_of(sheet, regions, address), size),
+        st,
+    )
+}
