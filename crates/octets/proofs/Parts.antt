@@ -1,17 +1,18 @@
 -- Laws of what a lent part holds.
 --     copied-more                           a copy that has stored i octets, and stores one more
 --     copied-source-end, copied-part-end    a copy that has gone as far as either list goes
+--     filled-behind                         a part from a place on, lent and filled, is laid over the whole
 --     zero-more, zero-stop, zero-end        the turns of a search for an octet that is not 0
 use mathlib.Core.Bool.{true, false}
-use mathlib.Core.Path.{_≡_, sym}
-use mathlib.Core.List.{List, _++_}
-use Prim.Native.Nat.{ℕ, suc, _+_, _<_, _≤_}
+use mathlib.Core.Path.{_≡_, sym, ap}
+use mathlib.Core.List.{List, [], _++_, append-nil}
+use Prim.Native.Nat.{ℕ, suc, _+_, _-_, _<_, _≤_}
 use native.Mathlib.Numerals.{add-one}
 use native.Mathlib.Omega.{arith}
 use borrow.Author.Tests.{ne-eqb}
-use lib.ListN.{length, getD, take, drop, set, drop-of-length-le}
-use lib.Seq.{take-suc, drop-cons, append-snoc, set-at, length-take-le, take-all}
-use Rattle.octets.specs.Parts.{copied, allZero}
+use lib.ListN.{length, getD, take, drop, set, length-drop, drop-of-length-le}
+use lib.Seq.{take-suc, drop-cons, append-snoc, set-at, length-take-le, take-all, drop-drop}
+use Rattle.octets.specs.Parts.{copied, putAt, allZero}
 
 pub copied-more : (d s : List ℕ) (i : ℕ) → i < length d → i < length s
     → set (take i s ++ drop i d) i (getD s i 0) ≡ take (i + 1) s ++ drop (i + 1) d
@@ -46,3 +47,13 @@ module _ (s : List ℕ) (i : ℕ) where
   pub zero-end : length s ≤ i → allZero (drop i s) ≡ true
   unfolding allZero
   zero-end h = rw (drop-of-length-le s h)
+
+-- a list whose part from a place on was lent and filled from the front
+pub filled-behind : (d : List ℕ) (at : ℕ) (s : List ℕ) → at + length s ≤ length d
+    → take at d ++ (copied (take (length d - at) (drop at d)) s ++ drop (length d - at) (drop at d)) ≡ putAt d at s
+unfolding copied putAt
+filled-behind d at s h =
+    let rest : take (length d - at) (drop at d) ≡ drop at d = take-all (length d - at) (drop at d) (simp length-drop (omega arith)) in
+    let whole : take (length (drop at d)) s ≡ s = take-all (length (drop at d)) s (simp length-drop (omega arith)) in
+    let none : drop (length d - at) (drop at d) ≡ [] = drop-of-length-le (drop at d) {i = length d - at} (simp length-drop (omega arith)) in
+    rw (rest, whole, none, drop-drop (length s) at d) (ap (λ (l : List ℕ). take at d ++ l) (append-nil _))

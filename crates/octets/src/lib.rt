@@ -1,8 +1,9 @@
 // Octets and the numbers made of them: the one place where octets of a lent slice become numbers, and where lent parts are filled.
 ghost use mathlib.Core.Path.{_≡_};
+ghost use Prim.Native.Nat.{_+_, _≤_};
 ghost use lib.ListN.{length, getD, replicate};
 ghost use Rattle.octets.specs.Numbers.{le2, le4, le2At, le4At};
-ghost use Rattle.octets.specs.Parts.{copied, allZero};
+ghost use Rattle.octets.specs.Parts.{copied, putAt, allZero};
 
 // The octet at `i`; past the end it counts as 0.
 pub fn octet(s: &[u8], i: usize) -> u8
@@ -93,4 +94,12 @@ pub fn copy(d: &mut [u8], s: &[u8])
         d[i] = s[i];
         i += 1;
     }
+}
+
+// The octets of `s` enter `d` at `at`: the part from there on is lent to be filled, and nothing before or after is touched.
+pub fn put(d: &mut [u8], at: usize, s: &[u8])
+    requires { ⌜ at + length (now s) ≤ length (now d) ⌝ }
+    ensures { λ _. ⌜ now (d .exit) ≡ putAt (now (d .entry)) at (now (s .entry)) ⌝ }
+{
+    copy(&mut d[at..], s);
 }

@@ -1,0 +1,29 @@
+// A command's fields out of its octets: the only place that knows where they stand.
+use machine::words::Command;
+ghost use mathlib.Core.Path.{_≡_};
+ghost use Rattle.frame.specs.Fields.{commandOf};
+
+// An octet past the command's end counts as 0, so that at L 8 none past 7 is looked at.
+pub fn command_of(command: &[u8]) -> Command
+    ensures { λ r. ⌜ r ≡ commandOf (now (command .entry)) ⌝ }
+{
+    let four = octets::octet(command, 4);
+    let five = octets::octet(command, 5);
+    let six = octets::octet(command, 6);
+    let seven = octets::octet(command, 7);
+    Command {
+        code: octets::octet(command, 0),
+        wdt: octets::octet(command, 1),
+        number: octets::le2(four, five),
+        size: six,
+        item: four,
+        offset: five,
+        count: octets::le2(six, seven),
+        mode: five,
+        address: octets::le4_at(command, 8),
+        version: four,
+        com_mod: five,
+        com_time: six,
+        profile: seven,
+    }
+}

@@ -1,0 +1,39 @@
+// The reply's first four octets.
+use link::state::LinkState;
+ghost use mathlib.Core.Path.{_≡_};
+ghost use Prim.Native.Nat.{_≤_};
+ghost use lib.ListN.{length, replicate};
+ghost use Rattle.octets.specs.Parts.{putAt};
+ghost use Rattle.frame.specs.Head.{rwdtOf, statusOf, headOf};
+
+fn rwdt(wdt: u8, next: LinkState) -> u8
+    ensures { λ r. ⌜ r ≡ rwdtOf wdt next ⌝ }
+{
+    if next.link == link::state::SYNC_CONNECTED {
+        return 16 * (next.watch.rsn % 16) + wdt % 16;
+    }
+    0
+}
+
+fn status(alarm: u8, next: LinkState) -> u16
+    ensures { λ r. ⌜ r ≡ statusOf alarm next ⌝ }
+{
+    let high = 256 * ((alarm % 16) as u16) + 4096 * ((next.latches.communication % 16) as u16);
+    if (next.latches.command == 0) & (next.latches.communication == 0) {
+        return 0 + 4 + high;
+    }
+    1 + 4 + high
+}
+
+// The head over a reply of zeros: no old octet stays.
+pub fn head(reply: &mut [u8], code: u8, wdt: u8, alarm: u8, next: LinkState)
+    requires { ⌜ 4 ≤ length (now reply) ⌝ }
+    ensures { λ _. ⌜ now (reply .exit) ≡ putAt (replicate (length (now (reply .entry))) 0) 0 (headOf code wdt alarm next) ⌝ }
+{
+    octets::zero(reply);
+    let word = status(alarm, next);
+    reply[0] = code;
+    reply[1] = rwdt(wdt, next);
+    reply[2] = (word % 256) as u8;
+    reply[3] = (word / 256) as u8;
+}
