@@ -2,7 +2,7 @@
 -- transfer 1 needs bit 1 (002, 9.2.1). All this is one check, at octet 5. That com_time is at least 2 with transfer 1 is checked at octet 6."
 use Prim.Native.Nat.{ℕ, _/_, _%_}
 use mathlib.Core.Bool.{Bool, not, _&&_, _||_}
-use lib.Dec.{eqb, ltb, leb}
+use lib.Dec.{eqb, leb}
 use Rattle.octets.specs.Pick.{pick}
 use Rattle.link.specs.Steps.{connected}
 use Rattle.link.specs.declared.state.LinkState.{LinkState}

@@ -2,15 +2,13 @@
 use Prim.Native.Nat.{ℕ, _+_, _-_, _*_, _/_, _%_}
 use mathlib.Core.Bool.{Bool, true, false, not}
 use mathlib.Core.List.{List}
-use lib.Dec.{eqb, ltb, leb}
+use lib.Dec.{eqb, ltb}
 use Rattle.octets.specs.Pick.{pick}
 use Rattle.link.specs.Steps.{synced, dropped, cleared}
 use Rattle.link.specs.declared.state.LinkState.{LinkState}
 use Rattle.regions.specs.Region.{regionsOf}
 use Rattle.regions.specs.declared.Region.{Region}
 use Rattle.sheet.specs.Entries.{parametersOf, itemsOf, soughtParameter, soughtItem}
-use Rattle.sheet.specs.declared.entries.Item.{Item}
-use Rattle.sheet.specs.declared.entries.Parameter.{Parameter}
 use Rattle.sheet.specs.declared.entries.SoughtItem.{SoughtItem}
 use Rattle.sheet.specs.declared.entries.SoughtParameter.{SoughtParameter}
 use Rattle.sheet.specs.declared.walk.Layout.{Layout}

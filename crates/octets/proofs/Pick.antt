@@ -6,6 +6,7 @@
 --     pick-differ, pick-same               a test that two numbers differ
 --     pick-failed, pick-held               a test that a callee's answer is not true
 --     pick-both                            what both arms have, the picked one has
+--     pick-cases                           the same, each arm with what its test was
 --     passed                               a pick whose first arm is not what came out: its test failed, and the second arm came out
 use mathlib.Core.Bool.{Bool, true, false, not}
 use mathlib.Core.Path.{_≡_, refl, sym, ap, _∙_}
@@ -60,6 +61,11 @@ module _ {ℓ} {A : Type ℓ} where
   unfolding pick
   pick-both P true p q = p
   pick-both P false p q = q
+
+  pub pick-cases : (P : A → Type 0) (b : Bool) {x y : A} → (b ≡ true → P x) → (b ≡ false → P y) → P (pick b x y)
+  unfolding pick
+  pick-cases P true p q = p refl
+  pick-cases P false p q = q refl
 
   pub passed : (b : Bool) {x y z : A} → (x ≡ z → ⊥) → pick b x y ≡ z → (b ≡ false) × (y ≡ z)
   unfolding pick

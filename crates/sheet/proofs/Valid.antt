@@ -3,20 +3,23 @@
 --     valid-apart       its regions are ordered and apart
 --     valid-parameter   a parameter that was found has a size in range, and its span lies wholly in regions
 --     valid-item        an ID item that was found has a length in range
-use mathlib.Core.Bool.{Bool, true, false}
+--     item-inside       and its octets stand inside the sheet
+--     length-least      L is at least 8
+use mathlib.Core.Bool.{Bool, true, false, true≢false}
 use mathlib.Core.Logic.{⊎-elim}
 use mathlib.Core.Path.{_≡_, refl, sym, ap, subst, _∙_}
 use mathlib.Core.List.{List}
-use Prim.Native.Nat.{ℕ, zero, suc, _+_, _-_, _≤_}
+use Prim.Native.Nat.{ℕ, zero, suc, _+_, _-_, _≤_, _<_}
 use native.Mathlib.Nat.{le-refl}
 use native.Mathlib.Omega.{arith}
-use borrow.Author.Tests.{eqb-true, eqb-false, ltb-false, eq-eqb, not-false}
+use borrow.Author.Tests.{eqb-true, eqb-false, ltb-false, eq-eqb, ne-eqb, not-false}
+use lib.Dec.{eqb}
 use lib.ListN.{length, getD, drop}
-use Rattle.octets.proofs.Cases.{eq-or-ne}
+use Rattle.octets.proofs.Cases.{eq-or-ne, lt-or-le}
 use Rattle.octets.proofs.Pick.{passed, pick-eq, pick-ne}
 use Rattle.regions.specs.Apart.{Apart}
 use Rattle.regions.specs.Region.{regionsOf}
-use Rattle.sheet.specs.Entries.{parameterAt, parametersOf, itemAt, itemsOf, soughtParameter, soughtItem}
+use Rattle.sheet.specs.Entries.{parameterAt, parametersOf, itemFrom, itemAt, itemsOf, soughtParameter, soughtItem}
 use Rattle.sheet.specs.Kinds.{isLength, misplacedOf}
 use Rattle.sheet.specs.Reading.{recordOf}
 use Rattle.sheet.specs.Sound.{Sound, Standing, FineParameter, FineItem, behind}
@@ -115,6 +118,20 @@ valid-sheet s lay v =
     })
     lay (p .1)
 
+five-least : (l : ℕ) → isLength l ≡ true → 8 ≤ l
+unfolding isLength
+five-least l e =
+    ⊎-elim
+    (λ (h : l < 8). absurd (true≢false (sym e ∙ short h)))
+    (λ h. h)
+    (lt-or-le l 8)
+  where
+    none : (k : ℕ) → l < 8 → 8 ≤ k → eqb l k ≡ false
+    none k h m = ne-eqb l k (λ q. let w : ⊥ = omega arith in w)
+
+    short : l < 8 → isLength l ≡ false
+    short h = rw (none 8 h (omega arith), none 16 h (omega arith), none 32 h (omega arith), none 48 h (omega arith), none 64 h (omega arith))
+
 module _ (s : List ℕ) (lay : Layout) (ok : ValidSheet s lay) where
   pub valid-apart : Apart 0 (regionsOf s (lay .regions))
   valid-apart = sound-apart s (behind (countsOf lay)) (countsOf lay) (ok .sound)
@@ -140,3 +157,21 @@ module _ (s : List ℕ) (lay : Layout) (ok : ValidSheet s lay) where
       (λ i l u x m.
       subst (λ (y : Item). FineItem y) (let q : itemAt s (lay .regions) (lay .parameters) i ≡ x = cc in q) (ok .sound .items-fine i (omega arith)))
       p e
+
+  -- the octets of an ID item that was found stand inside the sheet
+  pub item-inside : (n : ℕ) (i : Item) → soughtItem (itemsOf s (lay .regions) (lay .parameters) (lay .items)) n ≡ SoughtItem.Found i
+      → i .at + 32 ≤ length s
+  unfolding itemFrom
+  item-inside n p e =
+      sought-keeps (λ (x : Item). x .code) SoughtItem.Found SoughtItem.Missing
+      (λ (r : SoughtItem). (x : Item) → r ≡ SoughtItem.Found x → x .at + 32 ≤ length s)
+      (itemAt s (lay .regions) (lay .parameters)) 0 (lay .items) n
+      (λ x m. absurd (let z : _≡_ {A = ℕ} 0 1 = cc in let w : ⊥ = omega arith in w))
+      (λ i l u x m.
+      subst (λ (y : Item). y .at + 32 ≤ length s) (let q : itemAt s (lay .regions) (lay .parameters) i ≡ x = cc in q)
+      (let o = ok .octets in omega arith))
+      p e
+
+  -- the shortest PDU has 8 octets
+  pub length-least : 8 ≤ lay .l
+  length-least = five-least (lay .l) (ok .l-length)

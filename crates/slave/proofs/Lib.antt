@@ -1,2 +1,4 @@
 -- The laws of the slave's calls.
+pub mod Built
+pub mod Fits
 pub mod Order

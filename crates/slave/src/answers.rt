@@ -12,6 +12,14 @@ pub const DONE: u8 = 0;
 
 pub const BAD_STATE: u8 = 1;
 
+pub const BAD_MEMORY: u8 = 2;
+
+pub const BAD_COMMAND: u8 = 3;
+
+pub const BAD_REPLY: u8 = 4;
+
+pub const IS_DISABLED: u8 = 5;
+
 pub const NOT_DISABLED: u8 = 6;
 
 // A number without a place.

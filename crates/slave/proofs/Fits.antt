@@ -1,0 +1,179 @@
+-- Whatever the machine does, it fits: the data into the PDU, the span into the memory, an item's octets into the sheet.
+use mathlib.Core.Bool.{Bool, true, false}
+use mathlib.Core.Path.{_≡_, refl, sym, ap, subst, subst₂, _∙_}
+use mathlib.Core.List.{List}
+use Prim.Native.Nat.{ℕ, _+_, _-_, _*_, _≤_}
+use native.Mathlib.Nat.{le-refl}
+use native.Mathlib.Omega.{arith}
+use borrow.Author.Tests.{ltb-false, eqb-true, eqb-false, not-false}
+use lib.ListN.{length}
+use Rattle.octets.proofs.Pick.{pick-both, pick-cases}
+use Rattle.frame.specs.Body.{dataFrom, Fitting, Storing}
+use Rattle.link.specs.declared.state.LinkState.{LinkState}
+use Rattle.machine.specs.Connecting.{connectOf}
+use Rattle.machine.specs.Judging.{parameterData, parameterOf, itemData, itemOf, alarmsOf, clearOf, elementOf, memoryOf, dataOf, judgeOf}
+use Rattle.machine.specs.Outcomes.{finished, outcomeOf}
+use Rattle.machine.specs.Spans.{moved, spanPlace, placeIn, spanOf}
+use Rattle.machine.specs.declared.words.Carrier.{Carrier}
+use Rattle.machine.specs.declared.words.Carrier.the-variants.{Parameter as ByParameter, Memory as ByMemory}
+use Rattle.machine.specs.declared.words.Command.{Command}
+use Rattle.machine.specs.declared.words.Effect.{Effect}
+use Rattle.machine.specs.declared.words.Effect.the-variants.{Quiet, Reads, Writes, Identifies, Alarms, Connects}
+use Rattle.machine.specs.declared.words.Judgement.{Judgement}
+use Rattle.machine.specs.declared.words.Judgement.the-variants.{Refused, Accepted}
+use Rattle.machine.specs.declared.words.Outcome.{Outcome}
+use Rattle.regions.specs.Region.{regionsOf}
+use Rattle.regions.specs.Search.{beforeOf, spanHas}
+use Rattle.regions.specs.declared.Right.the-variants.{Mapped}
+use Rattle.regions.proofs.Places.{mapped-spot, span-inside}
+use Rattle.regions.proofs.Reach.{all-before}
+use Rattle.sheet.specs.Entries.{parametersOf, itemsOf, soughtParameter, soughtItem}
+use Rattle.sheet.specs.declared.entries.SoughtItem.{SoughtItem}
+use Rattle.sheet.specs.declared.entries.SoughtParameter.{SoughtParameter}
+use Rattle.sheet.specs.declared.walk.Layout.{Layout}
+use Rattle.sheet.proofs.Valid.{ValidSheet, valid-apart, valid-parameter, valid-item, valid-sheet, item-inside, length-least}
+use Rattle.slave.specs.Exchange.{Ready}
+
+-- a judgement whose effect fits
+abbrev Fit : Judgement → ℕ → ℕ → ℕ → Type 0
+Fit (Refused alarm) l m s = Unit {0}
+Fit (Accepted effect next) l m s = Fitting effect l m s
+
+-- what fits, stores
+pub fits-stored : (e : Effect) (l m s : ℕ) → Fitting e l m s → Storing e l m
+fits-stored Quiet l m s f = tt
+fits-stored (Reads by place n) l m s f = tt
+fits-stored (Writes by place n) l m s f = f
+fits-stored (Identifies at n) l m s f = tt
+fits-stored (Alarms old fault) l m s f = tt
+fits-stored Connects l m s f = tt
+
+moved-fits : (writes : Bool) (by : Carrier) (place n l m s : ℕ) → dataFrom by + n ≤ l → place + n ≤ m → Fitting (moved writes by place n) l m s
+unfolding moved
+moved-fits true by place n l m s d p = (d, p)
+moved-fits false by place n l m s d p = (d, p)
+
+module _ (s : List ℕ) (lay : Layout) (ok : ValidSheet s lay) (st : LinkState) (c : Command) where
+  -- a span that is wholly mapped stands inside the memory
+  span-room : (a n : ℕ) → 1 ≤ n → spanHas (regionsOf s (lay .regions)) Mapped a n ≡ true → spanPlace (regionsOf s (lay .regions)) a + n ≤ lay .memory
+  unfolding placeIn
+  span-room a n one h =
+      let rs = regionsOf s (lay .regions) in
+      let all : beforeOf rs Mapped a n ≡ n = eqb-true _ _ h in
+      let spot = mapped-spot rs 0 a (all-before rs Mapped a n all a (le-refl a) (omega arith)) in
+      let inside = span-inside 0 rs (valid-apart s lay ok) 0 a (spot .0) n (spot .1) all one in
+      let place : spanPlace rs a ≡ spot .0 = ap placeIn (spot .1 .1) in
+      let sum = ok .sound .memory-sum in
+      omega arith
+
+  span-fits : (writes : Bool) (by : Carrier) (a n : ℕ) → 1 ≤ n → dataFrom by + n ≤ lay .l
+      → Fit (spanOf writes (regionsOf s (lay .regions)) by a n st) (lay .l) (lay .memory) (length s)
+  unfolding spanOf
+  span-fits writes by a n one room =
+      pick-cases (λ (j : Judgement). Fit j (lay .l) (lay .memory) (length s)) _ (λ u. tt)
+      (λ u.
+      pick-both (λ (j : Judgement). Fit j (lay .l) (lay .memory) (length s)) _ tt
+      (moved-fits writes by (spanPlace (regionsOf s (lay .regions)) a) n (lay .l) (lay .memory) (length s) room (span-room a n one (not-false _ u))))
+
+  parameter-found : (writes : Bool) (x : SoughtParameter) → soughtParameter (parametersOf s (lay .regions) (lay .parameters)) (c .number) ≡ x
+      → Fit (parameterData writes (regionsOf s (lay .regions)) lay st c x) (lay .l) (lay .memory) (length s)
+  unfolding parameterData
+  parameter-found writes SoughtParameter.Missing e = tt
+  parameter-found writes (SoughtParameter.Found p) e =
+      let fine = valid-parameter s lay ok (c .number) p e in
+      pick-cases (λ (j : Judgement). Fit j (lay .l) (lay .memory) (length s)) _ (λ u. tt)
+      (λ u.
+      pick-cases (λ (j : Judgement). Fit j (lay .l) (lay .memory) (length s)) _ (λ v. tt)
+      (λ v.
+      let same = eqb-true (c .size) (p .size) (not-false _ u) in
+      let room = ltb-false (lay .l - 8) (c .size) v in
+      let some = fine .some in
+      span-fits writes ByParameter (p .address) (p .size) some (omega arith)))
+
+  item-found : (x : SoughtItem) → soughtItem (itemsOf s (lay .regions) (lay .parameters) (lay .items)) (c .item) ≡ x
+      → Fit (itemData lay st c x) (lay .l) (lay .memory) (length s)
+  unfolding itemData
+  item-found SoughtItem.Missing e = tt
+  item-found (SoughtItem.Found i) e =
+      pick-cases (λ (j : Judgement). Fit j (lay .l) (lay .memory) (length s)) _ (λ u. tt)
+      (λ u.
+      pick-cases (λ (j : Judgement). Fit j (lay .l) (lay .memory) (length s)) _ (λ v. tt)
+      (λ v.
+      pick-cases (λ (j : Judgement). Fit j (lay .l) (lay .memory) (length s)) _ (λ w. tt)
+      (λ w.
+      let some = eqb-false (c .count) 0 u in
+      let own = ltb-false (i .length) (c .offset + c .count) v in
+      let room = ltb-false (lay .l - 8) (c .count) w in
+      let fine = valid-item s lay ok (c .item) i e in
+      let most = fine .most in
+      let inside = item-inside s lay ok (c .item) i e in
+      (omega arith, omega arith))))
+
+  memory-fits : (writes : Bool) → Fit (memoryOf writes s lay st c) (lay .l) (lay .memory) (length s)
+  unfolding memoryOf
+  memory-fits writes =
+      pick-both (λ (j : Judgement). Fit j (lay .l) (lay .memory) (length s)) _ tt
+      (pick-cases (λ (j : Judgement). Fit j (lay .l) (lay .memory) (length s)) _ (λ u. tt)
+      (λ u.
+      pick-cases (λ (j : Judgement). Fit j (lay .l) (lay .memory) (length s)) _ (λ v. tt)
+      (λ v.
+      let some = eqb-false (c .count * elementOf (c .mode)) 0 u in
+      let room = ltb-false (lay .l - 12) (c .count * elementOf (c .mode)) v in
+      span-fits writes ByMemory (c .address) (c .count * elementOf (c .mode)) (omega arith) (omega arith))))
+
+  alarms-fit : Fit (alarmsOf lay st c) (lay .l) (lay .memory) (length s)
+  unfolding alarmsOf
+  alarms-fit =
+      pick-cases (λ (j : Judgement). Fit j (lay .l) (lay .memory) (length s)) _ (λ u. tt)
+      (λ u.
+      pick-both (λ (j : Judgement). Fit j (lay .l) (lay .memory) (length s)) _ tt
+      (let h = ltb-false (lay .l) 16 u in omega arith))
+
+  clear-fits : Fit (clearOf st c) (lay .l) (lay .memory) (length s)
+  unfolding clearOf
+  clear-fits = pick-both (λ (j : Judgement). Fit j (lay .l) (lay .memory) (length s)) _ tt tt
+
+  connect-fits : Fit (connectOf lay st c) (lay .l) (lay .memory) (length s)
+  unfolding connectOf
+  connect-fits =
+      let P : Judgement → Type 0 = λ j. Fit j (lay .l) (lay .memory) (length s) in
+      pick-both P _ tt (pick-both P _ tt (pick-both P _ tt (pick-both P _ tt (length-least s lay ok))))
+
+  judge-fits : Fit (judgeOf s lay st c) (lay .l) (lay .memory) (length s)
+  unfolding judgeOf dataOf parameterOf itemOf
+  judge-fits =
+      let P : Judgement → Type 0 = λ j. Fit j (lay .l) (lay .memory) (length s) in
+      pick-both P _ tt
+      (pick-both P _ tt
+      (pick-both P _ tt
+      (pick-both P _ (parameter-found false _ refl)
+      (pick-both P _ (parameter-found true _ refl)
+      (pick-both P _ (item-found _ refl)
+      (pick-both P _ alarms-fit
+      (pick-both P _ clear-fits
+      (pick-both P _ tt
+      (pick-both P _ connect-fits
+      (pick-both P _ tt
+      (pick-both P _ (memory-fits false) (memory-fits true))))))))))))
+
+  finished-fits : (j : Judgement) → Fit j (lay .l) (lay .memory) (length s) → Fitting (finished st c j .effect) (lay .l) (lay .memory) (length s)
+  unfolding finished
+  finished-fits (Refused alarm) f = tt
+  finished-fits (Accepted effect next) f = f
+
+  pub outcome-fits : Fitting (outcomeOf s lay st c .effect) (lay .l) (lay .memory) (length s)
+  unfolding outcomeOf
+  outcome-fits =
+      pick-both (λ (o : Outcome). Fitting (o .effect) (lay .l) (lay .memory) (length s)) _ tt (finished-fits (judgeOf s lay st c) judge-fits)
+
+-- where nothing refuses, the effect fits the lent lists
+pub ready-fits : (sheet state memory command reply : List ℕ) (lay : Layout) (st : LinkState) → Ready sheet state memory command reply lay st
+    → (c : Command) (o : Outcome) (begun : List ℕ) → o ≡ outcomeOf sheet lay st c → length begun ≡ length reply
+    → (length command ≡ length begun) × Fitting (o .effect) (length begun) (length memory) (length sheet)
+ready-fits sheet state memory command reply lay st p c o begun e l =
+    let ok = valid-sheet sheet lay (p .valid) in
+    let same : length begun ≡ lay .l = l ∙ p .lent in (
+      p .asked ∙ sym same,
+      subst₂ (λ (x y : ℕ). Fitting (o .effect) x y (length sheet)) (sym same) (sym (p .whole))
+          (subst (λ (x : Outcome). Fitting (x .effect) (lay .l) (lay .memory) (length sheet)) (sym e) (outcome-fits sheet lay ok st c)),
+    )

@@ -1,0 +1,77 @@
+// One exchange: every refusal before anything is written, then the outcome into reply, memory and state.
+use crate::answers::Answer;
+use link::state::LinkState;
+use link::stored::Stored;
+use sheet::walk::Layout;
+use sheet::walk::Verdict;
+ghost use mathlib.Core.Path.{_≡_};
+ghost use Rattle.slave.specs.Answers.{told};
+ghost use Rattle.slave.specs.Exchange.{left, refusalOf, exchanged, exchangeOf, Ready};
+
+// The first refusal behind the sheet's and the state's, by lengths and link; 0 where there is none.
+fn refusal(layout: Layout, st: LinkState, memory: usize, command: usize, reply: usize) -> u8
+    ensures { λ r. ⌜ r ≡ refusalOf layout st memory command reply ⌝ }
+{
+    if memory != layout.memory as usize {
+        return crate::answers::BAD_MEMORY;
+    }
+    if command != layout.l as usize {
+        return crate::answers::BAD_COMMAND;
+    }
+    if reply != layout.l as usize {
+        return crate::answers::BAD_REPLY;
+    }
+    if st.link == link::state::DISABLED {
+        return crate::answers::IS_DISABLED;
+    }
+    crate::answers::DONE
+}
+
+// The outcome of a command, written into reply, memory and state.
+fn perform(
+    sheet: &[u8],
+    layout: Layout,
+    st: LinkState,
+    state: &mut [u8],
+    memory: &mut [u8],
+    command: &[u8],
+    reply: &mut [u8],
+)
+    requires { ⌜ Ready (now sheet) (now state) (now memory) (now command) (now reply) layout st ⌝ }
+    ensures { λ _. ⌜ left (told 0 0) (now (state .exit)) (now (memory .exit)) (now (reply .exit)) ≡ exchanged (now (sheet .entry)) layout st (now (memory .entry)) (now (command .entry)) ⌝ }
+{
+    let c = frame::fields::command_of(command);
+    let outcome = machine::outcome::outcome(sheet, layout, st, c);
+    let effect = outcome.effect;
+    let next = outcome.next;
+    frame::head::head(reply, c.code, c.wdt, outcome.alarm, next);
+    frame::body::fill_body(effect, sheet, memory, command, reply);
+    frame::body::store(effect, command, memory);
+    link::stored::write(state, next);
+}
+
+// One exchange on lent octets of any lengths and contents.
+pub fn exchange(
+    sheet: &[u8],
+    state: &mut [u8],
+    memory: &mut [u8],
+    command: &[u8],
+    reply: &mut [u8],
+) -> Answer
+    ensures { λ r. ⌜ left r (now (state .exit)) (now (memory .exit)) (now (reply .exit)) ≡ exchangeOf (now (sheet .entry)) (now (state .entry)) (now (memory .entry)) (now (command .entry)) (now (reply .entry)) ⌝ }
+{
+    let verdict = sheet::walk::check(sheet);
+    let Verdict::Valid(layout) = verdict else {
+        return crate::answers::sheet_answer(verdict);
+    };
+    let held = link::stored::read(state, layout.l);
+    let Stored::State(st) = held else {
+        return crate::answers::plain(crate::answers::BAD_STATE);
+    };
+    let refused = refusal(layout, st, memory.len(), command.len(), reply.len());
+    if refused != 0 {
+        return crate::answers::plain(refused);
+    }
+    perform(sheet, layout, st, state, memory, command, reply);
+    crate::answers::plain(crate::answers::DONE)
+}
