@@ -1,14 +1,37 @@
 // The slave's calls for C hosts: numbers and byte slices alone cross this boundary, and every call checks every lent length itself.
 // An answer is one number, document 01's number + 2^32 × place.
+use sheet::walk::Verdict;
 use slave::answers::Answer;
 ghost use mathlib.Core.Path.{_≡_};
+ghost use Rattle.sheet.specs.Walk.{verdictOf};
+ghost use Rattle.slave.specs.Answers.{sheetAnswer};
 ghost use Rattle.slave.specs.Calls.{resetOf, enableOf};
-ghost use Rattle.type24.specs.Packed.{packed, packedAfter, afterCall};
+ghost use Rattle.slave.specs.Exchange.{exchangeOf};
+ghost use Rattle.type24.specs.Packed.{packed, packedAfter, afterCall, packedLeft, leftByCall, lengthsOf};
 
 fn pack(answer: Answer) -> u64
     ensures { λ r. ⌜ r ≡ packed answer ⌝ }
 {
     answer.number as u64 + 4294967296 * (answer.place as u64)
+}
+
+// The verdict on a sheet: 0, or a fault with its place.
+#[no_mangle]
+pub extern "C" fn t24_sheet(sheet: &[u8]) -> u64
+    ensures { λ r. ⌜ r ≡ packed (sheetAnswer (verdictOf (now (sheet .entry)))) ⌝ }
+{
+    pack(slave::answers::sheet_answer(sheet::walk::check(sheet)))
+}
+
+// The lengths that a host lends by a valid sheet: L + 2^32 × memory length; 0 for a refused one.
+#[no_mangle]
+pub extern "C" fn t24_lengths(sheet: &[u8]) -> u64
+    ensures { λ r. ⌜ r ≡ lengthsOf (verdictOf (now (sheet .entry))) ⌝ }
+{
+    match sheet::walk::check(sheet) {
+        Verdict::Valid(layout) => layout.l as u64 + 4294967296 * (layout.memory as u64),
+        Verdict::Faulty(_, _) => 0,
+    }
 }
 
 #[no_mangle]
@@ -23,4 +46,17 @@ pub extern "C" fn t24_enable(sheet: &[u8], state: &mut [u8]) -> u64
     ensures { λ r. ⌜ packedAfter r (now (state .exit)) ≡ afterCall (enableOf (now (sheet .entry)) (now (state .entry))) ⌝ }
 {
     pack(slave::calls::enable(sheet, state))
+}
+
+#[no_mangle]
+pub extern "C" fn t24_exchange(
+    sheet: &[u8],
+    state: &mut [u8],
+    memory: &mut [u8],
+    command: &[u8],
+    reply: &mut [u8],
+) -> u64
+    ensures { λ r. ⌜ packedLeft r (now (state .exit)) (now (memory .exit)) (now (reply .exit)) ≡ leftByCall (exchangeOf (now (sheet .entry)) (now (state .entry)) (now (memory .entry)) (now (command .entry)) (now (reply .entry))) ⌝ }
+{
+    pack(slave::exchanging::exchange(sheet, state, memory, command, reply))
 }
