@@ -1,0 +1,4 @@
+// The bench on an empty sheet and an empty standard input.
+fn main() {
+    station::run();
+}
