@@ -1,2 +1,5 @@
 -- The proofs of what the owner reads.
 pub mod Bench
+pub mod Histories
+pub mod States
+pub mod Refusals

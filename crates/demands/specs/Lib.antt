@@ -1,2 +1,5 @@
--- What the owner reads.
+-- What the owner reads, in reading order.
 pub mod Bench
+pub mod Sequences
+pub mod Refused
+pub mod Hidden
