@@ -3,3 +3,4 @@ pub mod Bench
 pub mod Histories
 pub mod States
 pub mod Refusals
+pub mod Rows

@@ -2,4 +2,5 @@
 pub mod Bench
 pub mod Sequences
 pub mod Refused
+pub mod Accepted
 pub mod Hidden
