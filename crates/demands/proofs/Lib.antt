@@ -4,3 +4,5 @@ pub mod Histories
 pub mod States
 pub mod Refusals
 pub mod Rows
+pub mod Lists
+pub mod Shown
