@@ -6,3 +6,5 @@ pub mod Refusals
 pub mod Rows
 pub mod Lists
 pub mod Shown
+pub mod Memories
+pub mod Owned

@@ -3,4 +3,5 @@ pub mod Bench
 pub mod Sequences
 pub mod Refused
 pub mod Accepted
+pub mod Writes
 pub mod Hidden
