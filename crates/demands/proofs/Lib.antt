@@ -8,3 +8,4 @@ pub mod Lists
 pub mod Shown
 pub mod Memories
 pub mod Owned
+pub mod Secrets

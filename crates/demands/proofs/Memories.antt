@@ -71,7 +71,7 @@ module _ (s : List ℕ) (lay : Layout) (st : LinkState) (c : Command) (command m
 pub exchange-memory : (sheet state memory command reply : List ℕ) (lay : Layout) (st : LinkState) → Answered sheet state memory command reply lay st
     → exchangeOf sheet state memory command reply .memory
     ≡ pick (acceptedOf sheet lay st (commandOf command))
-      (laid (regionsOf sheet (lay .regions)) (rowOf sheet lay (st .link) (commandOf command) .write) command memory) memory
+    (laid (regionsOf sheet (lay .regions)) (rowOf sheet lay (st .link) (commandOf command) .write) command memory) memory
 unfolding exchanged
 exchange-memory sheet state memory command reply lay st a =
     ap (λ (l : Left). l .memory) (answered-is sheet state memory command reply lay st a) ∙ outcome-memory sheet lay st (commandOf command) command memory
@@ -92,11 +92,12 @@ module _ (s : List ℕ) (lay : Layout) (ok : ValidSheet s lay) (link : ℕ) (c :
       let ea : a₀ ≡ a = cc in
       let en : n₀ ≡ n = cc in
       let ef : from₀ ≡ from = cc in
-      let h = g e in
-      (omega (arith, h .0),
+      let h = g e in (
+        omega (arith, h .0),
         subst (λ (x : ℕ). spanHas (regionsOf s (lay .regions)) Mapped x n ≡ true) ea
-        (subst (λ (x : ℕ). spanHas (regionsOf s (lay .regions)) Mapped a₀ x ≡ true) en (h .1)),
-        omega (arith, h .2))
+            (subst (λ (x : ℕ). spanHas (regionsOf s (lay .regions)) Mapped a₀ x ≡ true) en (h .1)),
+        omega (arith, h .2),
+      )
 
   parameter-sound : (writes : Bool) (x : SoughtParameter) → soughtParameter (parametersOf s (lay .regions) (lay .parameters)) (c .number) ≡ x
       → Sound (parameterRow writes (regionsOf s (lay .regions)) lay link c x)
@@ -105,14 +106,14 @@ module _ (s : List ℕ) (lay : Layout) (ok : ValidSheet s lay) (link : ℕ) (c :
   parameter-sound writes (SoughtParameter.Found p) q =
       speaking writes (p .address) (p .size) 8 _
       (λ e.
-        let least = length-least s lay ok in
-        let fine = valid-parameter s lay ok (c .number) p q in
-        let a = and-eq-true-iff (eqb (c .size) (p .size)) _ .0 e in
-        let b = and-eq-true-iff (leb (c .size) (lay .l - 8)) _ .0 (a .1) in
-        let m = and-eq-true-iff (spanHas (regionsOf s (lay .regions)) Mapped (p .address) (p .size)) _ .0 (b .1) in
-        let same = eqb-true (c .size) (p .size) (a .0) in
-        let room = leb-true (c .size) (lay .l - 8) (b .0) in
-        (fine .some, m .0, omega arith))
+      let least = length-least s lay ok in
+      let fine = valid-parameter s lay ok (c .number) p q in
+      let a = and-eq-true-iff (eqb (c .size) (p .size)) _ .0 e in
+      let b = and-eq-true-iff (leb (c .size) (lay .l - 8)) _ .0 (a .1) in
+      let m = and-eq-true-iff (spanHas (regionsOf s (lay .regions)) Mapped (p .address) (p .size)) _ .0 (b .1) in
+      let same = eqb-true (c .size) (p .size) (a .0) in
+      let room = leb-true (c .size) (lay .l - 8) (b .0) in
+      (fine .some, m .0, omega arith))
 
   item-sound : (x : SoughtItem) → Sound (itemRow lay c x)
   unfolding itemRow
@@ -124,13 +125,13 @@ module _ (s : List ℕ) (lay : Layout) (ok : ValidSheet s lay) (link : ℕ) (c :
   memory-sound writes =
       speaking writes (c .address) (c .count * elementOf (c .mode)) 12 _
       (λ e.
-        let a = and-eq-true-iff (not (eqb (elementOf (c .mode)) 0)) _ .0 e in
-        let b = and-eq-true-iff (not (eqb (c .count * elementOf (c .mode)) 0)) _ .0 (a .1) in
-        let d = and-eq-true-iff (leb (c .count * elementOf (c .mode)) (lay .l - 12)) _ .0 (b .1) in
-        let m = and-eq-true-iff (spanHas (regionsOf s (lay .regions)) Mapped (c .address) (c .count * elementOf (c .mode))) _ .0 (d .1) in
-        let some = eqb-false (c .count * elementOf (c .mode)) 0 (not-true _ (b .0)) in
-        let room = leb-true (c .count * elementOf (c .mode)) (lay .l - 12) (d .0) in
-        (omega arith, m .0, omega arith))
+      let a = and-eq-true-iff (not (eqb (elementOf (c .mode)) 0)) _ .0 e in
+      let b = and-eq-true-iff (not (eqb (c .count * elementOf (c .mode)) 0)) _ .0 (a .1) in
+      let d = and-eq-true-iff (leb (c .count * elementOf (c .mode)) (lay .l - 12)) _ .0 (b .1) in
+      let m = and-eq-true-iff (spanHas (regionsOf s (lay .regions)) Mapped (c .address) (c .count * elementOf (c .mode))) _ .0 (d .1) in
+      let some = eqb-false (c .count * elementOf (c .mode)) 0 (not-true _ (b .0)) in
+      let room = leb-true (c .count * elementOf (c .mode)) (lay .l - 12) (d .0) in
+      (omega arith, m .0, omega arith))
 
   pub row-sound : Sound (rowOf s lay link c)
   unfolding rowOf

@@ -84,10 +84,10 @@ module _ (sheet state memory command reply : List ℕ) (lay : Layout) (st : Link
       ∙ ⊎-elim
       (λ (l : i < p). put-before memory p (part command from n) place-room i l)
       (λ (l : p ≤ i).
-        ⊎-elim
-        (λ (u : i < p + n). absurd (none (i - p) (omega arith) (omega arith)))
-        (λ (u : p + n ≤ i). put-behind memory p (part command from n) place-room i (omega arith))
-        (lt-or-le i (p + n)))
+      ⊎-elim
+      (λ (u : i < p + n). absurd (none (i - p) (omega arith) (omega arith)))
+      (λ (u : p + n ≤ i). put-behind memory p (part command from n) place-room i (omega arith))
+      (lt-or-le i (p + n)))
       (lt-or-le i p)
 
 same-spot : {p q x y : ℕ} → At p x ≡ At q y → p ≡ q
@@ -116,10 +116,22 @@ module _ (sheet state memory command reply : List ℕ) (place : ℕ) where
   by-write lay st q (Octets a n from) e acc none =
       others sheet state memory command reply lay st q acc a n from e place
       (λ j h i.
-        let t = stands-at sheet state memory command reply lay st q acc a n from e j h in
-        none (from + j) (record {
-          lay = lay; st = st; answered = q; accepted = acc; address = a; n = n; from = from; write = e; j = j; inside = h;
-          rights = t .0; stands = t .1 ∙ ap (λ (p : ℕ). At p (t .0)) (sym i); octet = refl }))
+      let t = stands-at sheet state memory command reply lay st q acc a n from e j h in
+      none (from + j) (record {
+        lay = lay;
+        st = st;
+        answered = q;
+        accepted = acc;
+        address = a;
+        n = n;
+        from = from;
+        write = e;
+        j = j;
+        inside = h;
+        rights = t .0;
+        stands = t .1 ∙ ap (λ (p : ℕ). At p (t .0)) (sym i);
+        octet = refl;
+      }))
 
   answered-others : (lay : Layout) (st : LinkState) → Answered sheet state memory command reply lay st
       → ((k : ℕ) → Wrote sheet state memory command reply place k → ⊥)
@@ -136,12 +148,12 @@ module _ (sheet state memory command reply : List ℕ) (place : ℕ) where
       unfold exchangeOf in
       by-sheet (λ (l : Left). getD (l .memory) place 0 ≡ getD memory place 0) (verdictOf sheet) _ _ (λ fault p. refl)
       (λ lay v.
-        by-state (λ (l : Left). getD (l .memory) place 0 ≡ getD memory place 0) (stateOf state (lay .l)) _ _ refl
-        (λ st h.
-          pick-cases (λ (l : Left). getD (l .memory) place 0 ≡ getD memory place 0) _ (λ e. refl)
-          (λ e.
-            let q : Answered sheet state memory command reply lay st = record { valid = v; held = h; free = eqb-true _ 0 (not-false _ e) } in
-            ap (λ (l : Left). getD (l .memory) place 0) (sym (answered-is sheet state memory command reply lay st q)) ∙ answered-others lay st q none)))
+      by-state (λ (l : Left). getD (l .memory) place 0 ≡ getD memory place 0) (stateOf state (lay .l)) _ _ refl
+      (λ st h.
+      pick-cases (λ (l : Left). getD (l .memory) place 0 ≡ getD memory place 0) _ (λ e. refl)
+      (λ e.
+      let q : Answered sheet state memory command reply lay st = record { valid = v; held = h; free = eqb-true _ 0 (not-false _ e) } in
+      ap (λ (l : Left). getD (l .memory) place 0) (sym (answered-is sheet state memory command reply lay st q)) ∙ answered-others lay st q none)))
 
 pub writes-own-octets : WritesOwnOctets
 writes-own-octets sheet state memory command reply place =

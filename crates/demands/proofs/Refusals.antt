@@ -60,16 +60,16 @@ module _ (sheet state memory : List ℕ) where
   enable-keeps =
       by-sheet (λ (a : After). Unchanged state memory [] (beside memory a)) (verdictOf sheet) _ _ (λ fault place n. (refl, refl, refl))
       (λ lay v.
-        by-state (λ (a : After). Unchanged state memory [] (beside memory a)) (stateOf state (lay .l)) _ _ (λ n. (refl, refl, refl))
-        (λ st h. pick-both (λ (a : After). Unchanged state memory [] (beside memory a)) _ (λ n. (refl, refl, refl)) (λ n. absurd (n refl))))
+      by-state (λ (a : After). Unchanged state memory [] (beside memory a)) (stateOf state (lay .l)) _ _ (λ n. (refl, refl, refl))
+      (λ st h. pick-both (λ (a : After). Unchanged state memory [] (beside memory a)) _ (λ n. (refl, refl, refl)) (λ n. absurd (n refl))))
 
   exchange-keeps : (command reply : List ℕ) → Unchanged state memory reply (exchangeOf sheet state memory command reply)
   unfolding exchangeOf exchanged
   exchange-keeps command reply =
       by-sheet (Unchanged state memory reply) (verdictOf sheet) _ _ (λ fault place n. (refl, refl, refl))
       (λ lay v.
-        by-state (Unchanged state memory reply) (stateOf state (lay .l)) _ _ (λ n. (refl, refl, refl))
-        (λ st h. pick-both (Unchanged state memory reply) _ (λ n. (refl, refl, refl)) (λ n. absurd (n refl))))
+      by-state (Unchanged state memory reply) (stateOf state (lay .l)) _ _ (λ n. (refl, refl, refl))
+      (λ st h. pick-both (Unchanged state memory reply) _ (λ n. (refl, refl, refl)) (λ n. absurd (n refl))))
 
 pub refused-changes-nothing : RefusedChangesNothing
 unfolding callOf
@@ -99,8 +99,8 @@ module _ (sheet : List ℕ) where
       by-sheet (λ (a : After). a .answer .number ≡ 0 → ValidRecord sheet (a .state)) (verdictOf sheet) _ _
       (λ fault place e. absurd (fault-counts fault place e))
       (λ lay v.
-        pick-both (λ (a : After). a .answer .number ≡ 0 → ValidRecord sheet (a .state)) _ (λ e. absurd (let k : ⊥ = omega arith in k))
-        (λ e. written-valid lay (fresh (lay .l)) v (fresh-valid (lay .l))))
+      pick-both (λ (a : After). a .answer .number ≡ 0 → ValidRecord sheet (a .state)) _ (λ e. absurd (let k : ⊥ = omega arith in k))
+      (λ e. written-valid lay (fresh (lay .l)) v (fresh-valid (lay .l))))
 
   module _ (state memory : List ℕ) (ok : ValidRecord sheet state) where
     again-reset : ValidRecord sheet (resetOf sheet state .state)
@@ -114,23 +114,23 @@ module _ (sheet : List ℕ) where
     then-enable =
         by-sheet (λ (a : After). ValidRecord sheet (a .state)) (verdictOf sheet) _ _ (λ fault place. ok)
         (λ lay v.
-          by-state (λ (a : After). ValidRecord sheet (a .state)) (stateOf state (lay .l)) _ _ ok
-          (λ st h.
-            pick-cases (λ (a : After). ValidRecord sheet (a .state)) (not (eqb (st .link) 0)) (λ e. ok)
-            (λ e. written-valid lay (enabled st) v (enabled-valid (lay .l) st (read-valid state (lay .l) st h .1) (eqb-true (st .link) 0 (not-false _ e))))))
+        by-state (λ (a : After). ValidRecord sheet (a .state)) (stateOf state (lay .l)) _ _ ok
+        (λ st h.
+        pick-cases (λ (a : After). ValidRecord sheet (a .state)) (not (eqb (st .link) 0)) (λ e. ok)
+        (λ e. written-valid lay (enabled st) v (enabled-valid (lay .l) st (read-valid state (lay .l) st h .1) (eqb-true (st .link) 0 (not-false _ e))))))
 
     then-exchange : (command reply : List ℕ) → ValidRecord sheet (exchangeOf sheet state memory command reply .state)
     unfolding exchangeOf exchanged
     then-exchange command reply =
         by-sheet (λ (x : Left). ValidRecord sheet (x .state)) (verdictOf sheet) _ _ (λ fault place. ok)
         (λ lay v.
-          by-state (λ (x : Left). ValidRecord sheet (x .state)) (stateOf state (lay .l)) _ _ ok
-          (λ st h.
-            pick-cases (λ (x : Left). ValidRecord sheet (x .state)) _ (λ e. ok)
-            (λ e.
-              let q = no-refusal lay st (length memory) (length command) (length reply) (eqb-true _ 0 (not-false _ e)) in
-              let on : 1 ≤ st .link = omega (arith, q .3) in
-              written-valid lay _ v (outcome-valid sheet lay st (commandOf command) (lay .l) (read-valid state (lay .l) st h .1) on))))
+        by-state (λ (x : Left). ValidRecord sheet (x .state)) (stateOf state (lay .l)) _ _ ok
+        (λ st h.
+        pick-cases (λ (x : Left). ValidRecord sheet (x .state)) _ (λ e. ok)
+        (λ e.
+        let q = no-refusal lay st (length memory) (length command) (length reply) (eqb-true _ 0 (not-false _ e)) in
+        let on : 1 ≤ st .link = omega (arith, q .3) in
+        written-valid lay _ v (outcome-valid sheet lay st (commandOf command) (lay .l) (read-valid state (lay .l) st h .1) on))))
 
     then-call : (c : Call) → ValidRecord sheet (callOf sheet state memory c .state)
     unfolding callOf

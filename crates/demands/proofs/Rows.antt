@@ -146,7 +146,7 @@ module _ (s : List ℕ) (lay : Layout) (st : LinkState) (c : Command) (command m
 
   connect-by : Goes (connectOf lay st c)
       (row (eqb (c .version) (lay .version)
-        && (comModFits (c .«com_mod») && (comTimeFits (c .«com_mod») (c .«com_time») && eqb (c .profile) (lay .profile)))) Nothing)
+      && (comModFits (c .«com_mod») && (comTimeFits (c .«com_mod») (c .«com_time») && eqb (c .profile) (lay .profile)))) Nothing)
   unfolding connectOf memoryAfter
   connect-by =
       asking _ command memory (eqb (c .version) (lay .version)) 9 _ _

@@ -86,7 +86,7 @@ module _ (s : List ℕ) (lay : Layout) (ok : ValidSheet s lay) (st : LinkState) 
   unfolding judgeOf dataOf parameterOf itemOf alarmsOf clearOf connectOf memoryOf
   judge-shows =
       let memory : (writes : Bool) → J (memoryOf writes s lay st c) =
-            λ writes. pick-both J _ tt (pick-both J _ tt (pick-both J _ tt (span-shows writes _ (c .address) (c .count * elementOf (c .mode))))) in
+      λ writes. pick-both J _ tt (pick-both J _ tt (pick-both J _ tt (span-shows writes _ (c .address) (c .count * elementOf (c .mode))))) in
       pick-both J _ tt
       (pick-both J _ tt
       (pick-both J _ tt

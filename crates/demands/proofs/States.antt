@@ -85,16 +85,16 @@ module _ (s : List ℕ) (lay : Layout) (st : LinkState) (c : Command) (l : ℕ) 
       pick-both P _ nine
       (pick-cases P _ (λ u. nine)
       (λ u.
-        pick-cases P _ (λ w. nine)
-        (λ w.
-          pick-both P _ nine
-          (let m = c .«com_mod» in
-          let t = c .«com_time» in
-          let a = and-eq-true-iff (eqb (m % 2) 0 && eqb (m / 16) 0 && leb (transfer m) 1) (eqb (transfer m) 0 || eqb (synchronous m) 1) .0 (not-false _ u) in
-          let b = and-eq-true-iff (eqb (m % 2) 0 && eqb (m / 16) 0) (leb (transfer m) 1) .0 (a .0) in
-          let d = and-eq-true-iff (leb 1 t) (eqb (transfer m) 0 || leb 2 t) .0 (not-false _ w) in
-          let one = leb-true 1 t (d .0) in
-          joined m t (leb-true (transfer m) 1 (b .1)) (a .1) one (d .1)))))
+      pick-cases P _ (λ w. nine)
+      (λ w.
+      pick-both P _ nine
+      (let m = c .«com_mod» in
+      let t = c .«com_time» in
+      let a = and-eq-true-iff (eqb (m % 2) 0 && eqb (m / 16) 0 && leb (transfer m) 1) (eqb (transfer m) 0 || eqb (synchronous m) 1) .0 (not-false _ u) in
+      let b = and-eq-true-iff (eqb (m % 2) 0 && eqb (m / 16) 0) (leb (transfer m) 1) .0 (a .0) in
+      let d = and-eq-true-iff (leb 1 t) (eqb (transfer m) 0 || leb 2 t) .0 (not-false _ w) in
+      let one = leb-true 1 t (d .0) in
+      joined m t (leb-true (transfer m) 1 (b .1)) (a .1) one (d .1)))))
     where
       or-second : (x y : Bool) → x || y ≡ true → x ≡ false → y ≡ true
       or-second true y e f = absurd (false≢true (sym f))
@@ -103,15 +103,16 @@ module _ (s : List ℕ) (lay : Layout) (st : LinkState) (c : Command) (l : ℕ) 
       joined : (m t : ℕ) → transfer m ≤ 1 → eqb (transfer m) 0 || eqb (synchronous m) 1 ≡ true → 1 ≤ t → eqb (transfer m) 0 || leb 2 t ≡ true
           → Facts l (connected st (pick (eqb (synchronous m) 1) 3 2) (transfer m) t)
           × (1 ≤ pick (eqb (synchronous m) 1) 3 2)
-      joined m t small sync one long =
-          (connected-valid l st v (pick (eqb (synchronous m) 1) 3 2) (transfer m) t
+      joined m t small sync one long = (
+        connected-valid l st v (pick (eqb (synchronous m) 1) 3 2) (transfer m) t
             (pick-both (λ (x : ℕ). 2 ≤ x) (eqb (synchronous m) 1) {x = 3} {y = 2} (omega arith) (omega arith))
             (pick-both (λ (x : ℕ). x ≤ 3) (eqb (synchronous m) 1) {x = 3} {y = 2} (omega arith) (omega arith))
             small one
             (λ e.
-              let f = ne-eqb (transfer m) 0 (λ z. let k : ⊥ = omega arith in k) in
-              (pick-eq _ _ (eqb-true (synchronous m) 1 (or-second _ _ sync f)), leb-true 2 t (or-second _ _ long f))),
-            pick-both (λ (x : ℕ). 1 ≤ x) (eqb (synchronous m) 1) {x = 3} {y = 2} (omega arith) (omega arith))
+            let f = ne-eqb (transfer m) 0 (λ z. let k : ⊥ = omega arith in k) in
+            (pick-eq _ _ (eqb-true (synchronous m) 1 (or-second _ _ sync f)), leb-true 2 t (or-second _ _ long f))),
+        pick-both (λ (x : ℕ). 1 ≤ x) (eqb (synchronous m) 1) {x = 3} {y = 2} (omega arith) (omega arith),
+      )
 
   -- SYNC_SET is allowed in link 2 alone
   sync-link : isAllowed (st .link) (c .code) ≡ true → c .code ≡ 0x0D → 2 ≤ st .link
@@ -136,9 +137,9 @@ module _ (s : List ℕ) (lay : Layout) (st : LinkState) (c : Command) (l : ℕ) 
       (pick-both P _ clear-good
       (pick-cases P (eqb (c .code) 0x0D) (λ e. (synced-valid l st v (sync-link a (eqb-true (c .code) 0x0D e)), omega arith))
       (λ n.
-        pick-both P _ connect-good
-        (pick-both P _ (dropped-valid l st v, omega arith)
-        (pick-both P _ (memory-good false) (memory-good true))))))))))
+      pick-both P _ connect-good
+      (pick-both P _ (dropped-valid l st v, omega arith)
+      (pick-both P _ (memory-good false) (memory-good true))))))))))
 
   judge-good : P (judgeOf s lay st c)
   unfolding judgeOf
@@ -162,6 +163,6 @@ module _ (s : List ℕ) (lay : Layout) (st : LinkState) (c : Command) (l : ℕ) 
   outcome-valid =
       pick-cases (λ (o : Outcome). Facts l (o .next)) _
       (λ e.
-        let three = eqb-true (st .link) 3 (and-eq-true-iff (eqb (st .link) 3) (not (followsOf (st .watch) (c .wdt))) .0 e .0) in
-        lost-valid l st v (omega arith))
+      let three = eqb-true (st .link) 3 (and-eq-true-iff (eqb (st .link) 3) (not (followsOf (st .watch) (c .wdt))) .0 e .0) in
+      lost-valid l st v (omega arith))
       (λ e. finished-valid (judgeOf s lay st c) judge-good)

@@ -60,9 +60,9 @@ itemRow lay c (SoughtItem.Found i) =
 unfoldable pub memoryRow : Bool → List Region → Layout → ℕ → Command → Row
 memoryRow writes rs lay link c =
     row (not (eqb (elementOf (c .mode)) 0)
-      && (not (eqb (c .count * elementOf (c .mode)) 0)
-      && (leb (c .count * elementOf (c .mode)) (lay .l - 12)
-      && spanFits writes rs link (c .address) (c .count * elementOf (c .mode)))))
+    && (not (eqb (c .count * elementOf (c .mode)) 0)
+    && (leb (c .count * elementOf (c .mode)) (lay .l - 12)
+    && spanFits writes rs link (c .address) (c .count * elementOf (c .mode)))))
     (written writes (c .address) (c .count * elementOf (c .mode)) 12)
 
 -- the table, by code
@@ -76,8 +76,8 @@ rowOf s lay link c =
     (pick (eqb (c .code) 0x06) (row (eqb (c .number) 0) Nothing)
     (pick (eqb (c .code) 0x0D) (row true Nothing)
     (pick (eqb (c .code) 0x0E)
-      (row (eqb (c .version) (lay .version)
-        && (comModFits (c .«com_mod») && (comTimeFits (c .«com_mod») (c .«com_time») && eqb (c .profile) (lay .profile)))) Nothing)
+    (row (eqb (c .version) (lay .version)
+    && (comModFits (c .«com_mod») && (comTimeFits (c .«com_mod») (c .«com_time») && eqb (c .profile) (lay .profile)))) Nothing)
     (pick (eqb (c .code) 0x0F) (row true Nothing)
     (pick (eqb (c .code) 0x1D) (memoryRow false (regionsOf s (lay .regions)) lay link c)
     (memoryRow true (regionsOf s (lay .regions)) lay link c))))))))))

@@ -44,6 +44,6 @@ Demand3 =
     → (state m₁ m₂ : List ℕ) → DifferOnlyHidden sheet lay m₁ m₂ → (calls : List Call)
     → (map seen (runOf sheet state m₁ calls) ≡ map seen (runOf sheet state m₂ calls))
     × ((place : ℕ) → getD m₁ place 0 ≡ getD m₂ place 0
-        → getD (lastMemory m₁ (runOf sheet state m₁ calls)) place 0 ≡ getD (lastMemory m₂ (runOf sheet state m₂ calls)) place 0)
+    → getD (lastMemory m₁ (runOf sheet state m₁ calls)) place 0 ≡ getD (lastMemory m₂ (runOf sheet state m₂ calls)) place 0)
     × ((place : ℕ) → Reached sheet state m₁ calls place
-        → getD (lastMemory m₁ (runOf sheet state m₁ calls)) place 0 ≡ getD (lastMemory m₂ (runOf sheet state m₂ calls)) place 0)
+    → getD (lastMemory m₁ (runOf sheet state m₁ calls)) place 0 ≡ getD (lastMemory m₂ (runOf sheet state m₂ calls)) place 0)

@@ -47,9 +47,9 @@ abbrev pub WritesOwnOctets : Type 0
 WritesOwnOctets =
     (sheet state memory command reply : List ℕ) (place : ℕ)
     → ((k : ℕ) → Wrote sheet state memory command reply place k
-        → getD (exchangeOf sheet state memory command reply .memory) place 0 ≡ getD command k 0)
+    → getD (exchangeOf sheet state memory command reply .memory) place 0 ≡ getD command k 0)
     × (((k : ℕ) → Wrote sheet state memory command reply place k → ⊥)
-        → getD (exchangeOf sheet state memory command reply .memory) place 0 ≡ getD memory place 0)
+    → getD (exchangeOf sheet state memory command reply .memory) place 0 ≡ getD memory place 0)
 
 -- a call's accepted write reached a place
 abbrev pub ReachedBy : List ℕ → List ℕ → List ℕ → Call → ℕ → Type 0
