@@ -9,3 +9,4 @@ pub mod Shown
 pub mod Memories
 pub mod Owned
 pub mod Secrets
+pub mod Exact

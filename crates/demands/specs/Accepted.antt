@@ -2,6 +2,7 @@
 use Prim.Native.Nat.{ℕ, _+_, _-_, _*_, _≤_, _<_}
 use mathlib.Core.Bool.{Bool, true, false, not, _&&_, _||_}
 use mathlib.Core.List.{List}
+use mathlib.Core.Path.{_≡_}
 use lib.Dec.{eqb, leb}
 use Rattle.octets.specs.Parts.{part, putAt}
 use Rattle.octets.specs.Pick.{pick}
@@ -9,12 +10,16 @@ use Rattle.link.specs.Steps.{followsOf}
 use Rattle.link.specs.declared.state.LinkState.{LinkState}
 use Rattle.machine.specs.Codes.{isKnown, isAllowed}
 use Rattle.machine.specs.Connecting.{comModFits, comTimeFits}
-use Rattle.machine.specs.Judging.{elementOf}
+use Rattle.machine.specs.Judging.{elementOf, judgeOf}
+use Rattle.machine.specs.Outcomes.{comesTo, mnOf, counting, outcomeOf}
 use Rattle.machine.specs.Spans.{rightOf, spanPlace}
 use Rattle.machine.specs.declared.words.Command.{Command}
+use Rattle.machine.specs.declared.words.Effect.{Effect}
+use Rattle.machine.specs.declared.words.Judgement.the-variants.{Accepted}
 use Rattle.regions.specs.Region.{regionsOf}
-use Rattle.regions.specs.Search.{spanHas}
+use Rattle.regions.specs.Search.{grantsOf, spanHas}
 use Rattle.regions.specs.declared.Region.{Region}
+use Rattle.regions.specs.declared.Right.{Right}
 use Rattle.regions.specs.declared.Right.the-variants.{Mapped}
 use Rattle.sheet.specs.Entries.{parametersOf, itemsOf, soughtParameter, soughtItem}
 use Rattle.sheet.specs.declared.entries.SoughtItem.{SoughtItem}
@@ -92,3 +97,23 @@ acceptedOf s lay st c =
 unfoldable pub laid : List Region → Write → List ℕ → List ℕ → List ℕ
 laid rs Nothing command memory = memory
 laid rs (Octets address n from) command memory = putAt memory (spanPlace rs address) (part command from n)
+
+-- a command is executed with its body in the reply: checks 2 to 5 accept it, and the exchange comes to that, with alarm 0. (A failed watchdog has
+-- alarm 0 too, and comes to the lost state instead.)
+abbrev pub Executed : List ℕ → Layout → LinkState → Command → Type 0
+Executed s lay st c =
+    (effect : Effect) × (next : LinkState) × (judgeOf s lay st c ≡ Accepted effect next)
+    × (outcomeOf s lay st c ≡ comesTo 0 effect (counting st next (mnOf c)))
+
+-- "A command is accepted exactly when document 01 accepts it: state, format, span, rights."
+abbrev pub AcceptanceIsExact : Type 0
+AcceptanceIsExact =
+    (s : List ℕ) (lay : Layout) (st : LinkState) (c : Command)
+    → (acceptedOf s lay st c ≡ true → Executed s lay st c) × (Executed s lay st c → acceptedOf s lay st c ≡ true)
+
+-- a span has a right exactly where every octet of it has
+abbrev pub RightsOverWholeSpan : Type 0
+RightsOverWholeSpan =
+    (rs : List Region) (w : Right) (a n : ℕ)
+    → (spanHas rs w a n ≡ true → (x : ℕ) → a ≤ x → x < a + n → grantsOf rs w x ≡ true)
+    × (((x : ℕ) → a ≤ x → x < a + n → grantsOf rs w x ≡ true) → spanHas rs w a n ≡ true)

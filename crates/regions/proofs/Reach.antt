@@ -105,7 +105,7 @@ reach-unmapped end (r ∷ rs) p t =
     (decided (holdsOf r t))
 
 -- a span whose every octet has the right has all n octets before the first that lacks it
-before-all : (rs : List Region) (w : Right) (a n : ℕ) → ((x : ℕ) → a ≤ x → x < a + n → grantsOf rs w x ≡ true) → beforeOf rs w a n ≡ n
+pub before-all : (rs : List Region) (w : Right) (a n : ℕ) → ((x : ℕ) → a ≤ x → x < a + n → grantsOf rs w x ≡ true) → beforeOf rs w a n ≡ n
 unfolding beforeOf
 before-all rs w a zero all = refl
 before-all rs w a (suc n) all =
