@@ -10,3 +10,5 @@ pub mod Memories
 pub mod Owned
 pub mod Secrets
 pub mod Exact
+pub mod Shut
+pub mod Alone

@@ -226,7 +226,7 @@ module _ (sheet : List ℕ) (lay : Layout) (v : verdictOf sheet ≡ Valid lay) (
           (sym (same-held′ state h q (r .1 .answered .held))) (r .1 .answered .free)))))
           (eq-or-ne (refusalOf lay st (length m₁) (length command) (length reply)) 0)
 
-    call-kept : (c : Call) → Kept sheet lay E (ReachedBy sheet state m₁ c) (callOf sheet state m₁ c) (callOf sheet state m₂ c)
+    pub call-kept : (c : Call) → Kept sheet lay E (ReachedBy sheet state m₁ c) (callOf sheet state m₁ c) (callOf sheet state m₂ c)
     unfolding callOf
     call-kept Reset = still _ _ [] (λ i. ⊥) (λ i r. r)
     call-kept Enable = still _ _ [] (λ i. ⊥) (λ i r. r)

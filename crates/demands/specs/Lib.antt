@@ -5,3 +5,4 @@ pub mod Refused
 pub mod Accepted
 pub mod Writes
 pub mod Hidden
+pub mod Idle

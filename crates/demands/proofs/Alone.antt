@@ -1,0 +1,119 @@
+-- All five idle programs keep secrets: what demand 3 asks alone does not shut them out, and so it speaks of the machine of demand 2.
+use mathlib.Core.Logic.{inl}
+use mathlib.Core.Path.{_≡_, refl, sym, ap, ap₂, _∙_}
+use mathlib.Core.List.{List, [], _∷_, map}
+use Prim.Native.Nat.{ℕ}
+use lib.ListN.{length, getD, set}
+use Rattle.sheet.specs.Walk.{verdictOf}
+use Rattle.sheet.specs.declared.walk.Layout.{Layout}
+use Rattle.sheet.specs.declared.walk.Verdict.the-variants.{Valid}
+use Rattle.slave.specs.Exchange.{Left}
+use Rattle.demands.specs.Hidden.{Readable, DifferOnlyHidden, Seen, seen}
+use Rattle.demands.specs.Idle.{Program, KeepsSecrets, refusesAll, singleReply, storesNothing, echoes, echoesAfterwards, inventing, inventsRsn}
+use Rattle.demands.specs.Sequences.{Call, Reset, Enable, Exchange, callOf, runOf, lastMemory}
+use Rattle.demands.proofs.Secrets.{call-kept, demand-3}
+
+-- the same behind the same
+behind : {x : Seen} {xs ys : List Seen} → xs ≡ ys → x ∷ xs ≡ x ∷ ys
+behind {x} e = ap (λ (zs : List Seen). x ∷ zs) e
+
+-- a program that leaves the memory as it was, and shows nothing of it
+module _ (sheet state m₁ m₂ : List ℕ) where
+  refuses-seen : (calls : List Call) → map seen (refusesAll sheet state m₁ calls) ≡ map seen (refusesAll sheet state m₂ calls)
+  unfolding refusesAll
+  refuses-seen [] = refl
+  refuses-seen (c ∷ cs) = behind (refuses-seen cs)
+
+  single-seen : (calls : List Call) → map seen (singleReply sheet state m₁ calls) ≡ map seen (singleReply sheet state m₂ calls)
+  unfolding singleReply
+  single-seen [] = refl
+  single-seen (c ∷ cs) = behind (single-seen cs)
+
+  echoes-seen : (calls : List Call) → map seen (echoes state m₁ calls) ≡ map seen (echoes state m₂ calls)
+  unfolding echoes
+  echoes-seen [] = refl
+  echoes-seen (Reset ∷ cs) = behind (echoes-seen cs)
+  echoes-seen (Enable ∷ cs) = behind (echoes-seen cs)
+  echoes-seen (Exchange command reply ∷ cs) = behind (echoes-seen cs)
+
+module _ (sheet state memory : List ℕ) where
+  refuses-last : (calls : List Call) → lastMemory memory (refusesAll sheet state memory calls) ≡ memory
+  unfolding refusesAll lastMemory
+  refuses-last [] = refl
+  refuses-last (c ∷ cs) = refuses-last cs
+
+  single-last : (calls : List Call) → lastMemory memory (singleReply sheet state memory calls) ≡ memory
+  unfolding singleReply lastMemory
+  single-last [] = refl
+  single-last (c ∷ cs) = single-last cs
+
+  echoes-last : (calls : List Call) → lastMemory memory (echoes state memory calls) ≡ memory
+  unfolding echoes lastMemory
+  echoes-last [] = refl
+  echoes-last (Reset ∷ cs) = echoes-last cs
+  echoes-last (Enable ∷ cs) = echoes-last cs
+  echoes-last (Exchange command reply ∷ cs) = echoes-last cs
+
+stores-last : (sheet state memory : List ℕ) (calls : List Call) → lastMemory memory (storesNothing sheet state memory calls) ≡ memory
+unfolding storesNothing lastMemory
+stores-last sheet state memory [] = refl
+stores-last sheet state memory (c ∷ cs) = stores-last sheet (callOf sheet state memory c .state) memory cs
+
+-- two memories of which nothing was changed agree where they agreed
+still-agree : (a b x y : List ℕ) → a ≡ x → b ≡ y → (i : ℕ) → getD x i 0 ≡ getD y i 0 → getD a i 0 ≡ getD b i 0
+still-agree a b x y p q i e = ap (λ (l : List ℕ). getD l i 0) p ∙ e ∙ sym (ap (λ (l : List ℕ). getD l i 0) q)
+
+pub refuses-all-keeps-secrets : KeepsSecrets refusesAll
+refuses-all-keeps-secrets sheet lay v state m₁ m₂ d calls =
+    (refuses-seen sheet state m₁ m₂ calls, still-agree _ _ m₁ m₂ (refuses-last sheet state m₁ calls) (refuses-last sheet state m₂ calls))
+
+pub single-reply-keeps-secrets : KeepsSecrets singleReply
+single-reply-keeps-secrets sheet lay v state m₁ m₂ d calls =
+    (single-seen sheet state m₁ m₂ calls, still-agree _ _ m₁ m₂ (single-last sheet state m₁ calls) (single-last sheet state m₂ calls))
+
+-- a program that answers as the machine does shows what the machine shows
+stores-seen : (sheet : List ℕ) (lay : Layout) → verdictOf sheet ≡ Valid lay → (m₁ m₂ : List ℕ) → DifferOnlyHidden sheet lay m₁ m₂ → (calls : List Call)
+    (state : List ℕ) → map seen (storesNothing sheet state m₁ calls) ≡ map seen (storesNothing sheet state m₂ calls)
+unfolding storesNothing
+stores-seen sheet lay v m₁ m₂ d [] state = refl
+stores-seen sheet lay v m₁ m₂ d (c ∷ cs) state =
+    let k = call-kept sheet lay v (λ i. getD m₁ i 0 ≡ getD m₂ i 0) (d .shown) state m₁ m₂ (d .whole₁) (d .whole₂) (λ i e. e) c .same in
+    ap₂ (λ (x : Seen) (xs : List Seen). x ∷ xs) k
+    (stores-seen sheet lay v m₁ m₂ d cs (callOf sheet state m₁ c .state)
+    ∙ ap (λ (s : List ℕ). map seen (storesNothing sheet s m₂ cs)) (ap (λ (x : Seen). x .state) k))
+
+pub stores-nothing-keeps-secrets : KeepsSecrets storesNothing
+stores-nothing-keeps-secrets sheet lay v state m₁ m₂ d calls =
+    (stores-seen sheet lay v m₁ m₂ d calls state, still-agree _ _ m₁ m₂ (stores-last sheet state m₁ calls) (stores-last sheet state m₂ calls))
+
+pub echoes-afterwards-keeps-secrets : KeepsSecrets echoesAfterwards
+unfolding echoesAfterwards lastMemory
+echoes-afterwards-keeps-secrets sheet lay v state m₁ m₂ d [] = (refl, λ i e. e)
+echoes-afterwards-keeps-secrets sheet lay v state m₁ m₂ d (c ∷ cs) =
+    let k = call-kept sheet lay v (λ i. getD m₁ i 0 ≡ getD m₂ i 0) (d .shown) state m₁ m₂ (d .whole₁) (d .whole₂) (λ i e. e) c in
+    let l₁ = callOf sheet state m₁ c in
+    let l₂ = callOf sheet state m₂ c in
+    (ap₂ (λ (x : Seen) (xs : List Seen). x ∷ xs) (k .same)
+      (echoes-seen sheet (l₁ .state) (l₁ .memory) (l₂ .memory) cs
+      ∙ ap (λ (s : List ℕ). map seen (echoes s (l₂ .memory) cs)) (ap (λ (x : Seen). x .state) (k .same))),
+      λ i e. still-agree _ _ (l₁ .memory) (l₂ .memory) (echoes-last sheet (l₁ .state) (l₁ .memory) cs) (echoes-last sheet (l₂ .state) (l₂ .memory) cs) i (k .agree i (inl e)))
+
+-- a change of what is seen alone
+abbrev inventedSeen : Seen → Seen
+inventedSeen s = record { answer = s .answer; state = s .state; reply = set (s .reply) 1 0xF0 }
+
+invents-seen : (ls : List Left) → map seen (map inventing ls) ≡ map inventedSeen (map seen ls)
+invents-seen [] = refl
+invents-seen (l ∷ ls) = behind (invents-seen ls)
+
+invents-last : (memory : List ℕ) (ls : List Left) → lastMemory memory (map inventing ls) ≡ lastMemory memory ls
+unfolding lastMemory
+invents-last memory [] = refl
+invents-last memory (l ∷ ls) = invents-last (l .memory) ls
+
+pub invents-rsn-keeps-secrets : KeepsSecrets inventsRsn
+unfolding inventsRsn
+invents-rsn-keeps-secrets sheet lay v state m₁ m₂ d calls =
+    let k = demand-3 sheet lay v state m₁ m₂ d calls in
+    (invents-seen (runOf sheet state m₁ calls) ∙ ap (map inventedSeen) (k .0) ∙ sym (invents-seen (runOf sheet state m₂ calls)),
+      λ i e. still-agree _ _ _ _ (invents-last m₁ (runOf sheet state m₁ calls)) (invents-last m₂ (runOf sheet state m₂ calls)) i (k .1 i e))
