@@ -92,11 +92,12 @@ echoes-afterwards-keeps-secrets sheet lay v state m₁ m₂ d [] = (refl, λ i e
 echoes-afterwards-keeps-secrets sheet lay v state m₁ m₂ d (c ∷ cs) =
     let k = call-kept sheet lay v (λ i. getD m₁ i 0 ≡ getD m₂ i 0) (d .shown) state m₁ m₂ (d .whole₁) (d .whole₂) (λ i e. e) c in
     let l₁ = callOf sheet state m₁ c in
-    let l₂ = callOf sheet state m₂ c in
-    (ap₂ (λ (x : Seen) (xs : List Seen). x ∷ xs) (k .same)
-      (echoes-seen sheet (l₁ .state) (l₁ .memory) (l₂ .memory) cs
-      ∙ ap (λ (s : List ℕ). map seen (echoes s (l₂ .memory) cs)) (ap (λ (x : Seen). x .state) (k .same))),
-      λ i e. still-agree _ _ (l₁ .memory) (l₂ .memory) (echoes-last sheet (l₁ .state) (l₁ .memory) cs) (echoes-last sheet (l₂ .state) (l₂ .memory) cs) i (k .agree i (inl e)))
+    let l₂ = callOf sheet state m₂ c in (
+      ap₂ (λ (x : Seen) (xs : List Seen). x ∷ xs) (k .same)
+          (echoes-seen sheet (l₁ .state) (l₁ .memory) (l₂ .memory) cs
+          ∙ ap (λ (s : List ℕ). map seen (echoes s (l₂ .memory) cs)) (ap (λ (x : Seen). x .state) (k .same))),
+      λ i e. still-agree _ _ (l₁ .memory) (l₂ .memory) (echoes-last sheet (l₁ .state) (l₁ .memory) cs) (echoes-last sheet (l₂ .state) (l₂ .memory) cs) i (k .agree i (inl e)),
+    )
 
 -- a change of what is seen alone
 abbrev inventedSeen : Seen → Seen
@@ -114,6 +115,7 @@ invents-last memory (l ∷ ls) = invents-last (l .memory) ls
 pub invents-rsn-keeps-secrets : KeepsSecrets inventsRsn
 unfolding inventsRsn
 invents-rsn-keeps-secrets sheet lay v state m₁ m₂ d calls =
-    let k = demand-3 sheet lay v state m₁ m₂ d calls in
-    (invents-seen (runOf sheet state m₁ calls) ∙ ap (map inventedSeen) (k .0) ∙ sym (invents-seen (runOf sheet state m₂ calls)),
-      λ i e. still-agree _ _ _ _ (invents-last m₁ (runOf sheet state m₁ calls)) (invents-last m₂ (runOf sheet state m₂ calls)) i (k .1 i e))
+    let k = demand-3 sheet lay v state m₁ m₂ d calls in (
+      invents-seen (runOf sheet state m₁ calls) ∙ ap (map inventedSeen) (k .0) ∙ sym (invents-seen (runOf sheet state m₂ calls)),
+      λ i e. still-agree _ _ _ _ (invents-last m₁ (runOf sheet state m₁ calls)) (invents-last m₂ (runOf sheet state m₂ calls)) i (k .1 i e),
+    )

@@ -61,10 +61,13 @@ module _ (s : List ℕ) (lay : Layout) (st : LinkState) (c : Command) where
   unfolding acceptedOf outcomeOf finished
   forward e =
       let a = and-eq-true-iff (not (eqb (st .link) 3) || followsOf (st .watch) (c .wdt)) _ .0 e in
-      let j = opened (judgeOf s lay st c) (by-table ∙ a .1) in
-      (j .0, j .1, j .2,
+      let j = opened (judgeOf s lay st c) (by-table ∙ a .1) in (
+        j .0,
+        j .1,
+        j .2,
         pick-no (comesTo 0 Quiet (lost st)) (finished st c (judgeOf s lay st c)) (not-lost (eqb (st .link) 3) (followsOf (st .watch) (c .wdt)) (a .0))
-        ∙ ap (finished st c) (j .2))
+            ∙ ap (finished st c) (j .2),
+      )
 
   -- in link 3 no accepted command leads to link 2
   abbrev Stays : Judgement → Type 0
@@ -113,8 +116,8 @@ module _ (s : List ℕ) (lay : Layout) (st : LinkState) (c : Command) where
         (pick-both Stays _ (λ z. let k : ⊥ = omega arith in k)
         (pick-cases Stays (eqb (c .code) 0x0E) (λ e. absurd (no-connect a (eqb-true (c .code) 0x0E e)))
         (λ e.
-          pick-both Stays _ (λ z. let k : ⊥ = omega arith in k)
-          (pick-both Stays _ (memory-stays false) (memory-stays true))))))))))
+        pick-both Stays _ (λ z. let k : ⊥ = omega arith in k)
+        (pick-both Stays _ (memory-stays false) (memory-stays true))))))))))
 
     judge-stays : Stays (judgeOf s lay st c)
     unfolding judgeOf
@@ -139,9 +142,9 @@ module _ (s : List ℕ) (lay : Layout) (st : LinkState) (c : Command) where
       ⊎-elim
       (λ e. absurd (lost-is-none e x))
       (λ e.
-        and-eq-true-iff (not (eqb (st .link) 3) || followsOf (st .watch) (c .wdt))
-        (isKnown (c .code) && (isAllowed (st .link) (c .code) && rowOf s lay (st .link) c .fits)) .1
-        (kept-watch (eqb (st .link) 3) (followsOf (st .watch) (c .wdt)) e, sym by-table ∙ ap accepts (x .2)))
+      and-eq-true-iff (not (eqb (st .link) 3) || followsOf (st .watch) (c .wdt))
+      (isKnown (c .code) && (isAllowed (st .link) (c .code) && rowOf s lay (st .link) c .fits)) .1
+      (kept-watch (eqb (st .link) 3) (followsOf (st .watch) (c .wdt)) e, sym by-table ∙ ap accepts (x .2)))
       (decided (eqb (st .link) 3 && not (followsOf (st .watch) (c .wdt))))
 
 pub acceptance-is-exact : AcceptanceIsExact

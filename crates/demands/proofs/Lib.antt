@@ -12,3 +12,5 @@ pub mod Secrets
 pub mod Exact
 pub mod Shut
 pub mod Alone
+pub mod Unique
+pub mod Demands

@@ -30,7 +30,7 @@ KeepsSecrets p =
     → (state m₁ m₂ : List ℕ) → DifferOnlyHidden sheet lay m₁ m₂ → (calls : List Call)
     → (map seen (p sheet state m₁ calls) ≡ map seen (p sheet state m₂ calls))
     × ((place : ℕ) → getD m₁ place 0 ≡ getD m₂ place 0
-        → getD (lastMemory m₁ (p sheet state m₁ calls)) place 0 ≡ getD (lastMemory m₂ (p sheet state m₂ calls)) place 0)
+    → getD (lastMemory m₁ (p sheet state m₁ calls)) place 0 ≡ getD (lastMemory m₂ (p sheet state m₂ calls)) place 0)
 
 -- one that refuses all
 unfoldable pub refusesAll : Program

@@ -1,8 +1,10 @@
--- What the owner reads, in reading order.
-pub mod Bench
-pub mod Sequences
+-- What the owner reads: Demands is the page to begin with; the others are in the order in which it cites them.
+pub mod Demands
 pub mod Refused
+pub mod Sequences
 pub mod Accepted
 pub mod Writes
 pub mod Hidden
 pub mod Idle
+pub mod Unique
+pub mod Bench

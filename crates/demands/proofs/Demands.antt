@@ -1,0 +1,40 @@
+-- The owner's page, proved.
+use Rattle.demands.specs.Demands.{FirstDemand, SecondDemand, ThirdDemand, IdlePrograms, OnTheBench}
+use Rattle.demands.proofs.Alone.{refuses-all-keeps-secrets, single-reply-keeps-secrets, stores-nothing-keeps-secrets, echoes-afterwards-keeps-secrets, invents-rsn-keeps-secrets}
+use Rattle.demands.proofs.Bench.{sheet-p-is-valid, bench-cases}
+use Rattle.demands.proofs.Exact.{acceptance-is-exact, rights-over-whole-span}
+use Rattle.demands.proofs.Histories.{history-is-run}
+use Rattle.demands.proofs.Owned.{writes-own-octets}
+use Rattle.demands.proofs.Refusals.{refused-changes-nothing, states-stay-valid}
+use Rattle.demands.proofs.Secrets.{demand-3}
+use Rattle.demands.proofs.Shut.{refuses-all-is-shut-out, single-reply-is-shut-out, stores-nothing-is-shut-out, echoes-afterwards-is-shut-out, invents-rsn-is-shut-out}
+use Rattle.demands.proofs.Unique.{one-reset, one-enable, one-exchange}
+
+pub first-demand : FirstDemand
+first-demand = record { a-refused-call-changes-nothing = refused-changes-nothing; states-stay-valid = states-stay-valid }
+
+pub second-demand : SecondDemand
+second-demand = record {
+  acceptance-is-exact = acceptance-is-exact;
+  rights-over-the-whole-span = rights-over-whole-span;
+  over-every-sequence = λ sheet state memory calls ls h. history-is-run sheet h;
+  a-write-stores-its-own-octets = writes-own-octets;
+  two-resets-are-one = one-reset;
+  two-enables-are-one = one-enable;
+  two-exchanges-are-one = one-exchange;
+}
+
+pub third-demand : ThirdDemand
+third-demand = demand-3
+
+pub idle-programs : IdlePrograms
+idle-programs = record {
+  refusing-all = (refuses-all-is-shut-out, refuses-all-keeps-secrets);
+  a-single-reply = (single-reply-is-shut-out, single-reply-keeps-secrets);
+  storing-nothing = (stores-nothing-is-shut-out, stores-nothing-keeps-secrets);
+  echoing-afterwards = (echoes-afterwards-is-shut-out, echoes-afterwards-keeps-secrets);
+  inventing-rsn = (invents-rsn-is-shut-out, invents-rsn-keeps-secrets);
+}
+
+pub on-the-bench : OnTheBench
+on-the-bench = record { sheet-p = sheet-p-is-valid; cases = bench-cases }

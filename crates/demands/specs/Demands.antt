@@ -1,0 +1,50 @@
+-- The page for the owner: his demands as propositions. Each is proved, under the same name in small letters, in proofs/Demands.antt.
+use Prim.Native.Nat.{ℕ}
+use mathlib.Core.List.{List}
+use mathlib.Core.Path.{_≡_}
+use Rattle.slave.specs.Exchange.{Left}
+use Rattle.demands.specs.Accepted.{AcceptanceIsExact, RightsOverWholeSpan}
+use Rattle.demands.specs.Bench.{SheetPIsValid, BenchCases}
+use Rattle.demands.specs.Hidden.{Demand3}
+use Rattle.demands.specs.Idle.{Demand2, KeepsSecrets, refusesAll, singleReply, storesNothing, echoesAfterwards, inventsRsn}
+use Rattle.demands.specs.Refused.{RefusedChangesNothing, StatesStayValid}
+use Rattle.demands.specs.Sequences.{Call, runOf, History}
+use Rattle.demands.specs.Unique.{OneReset, OneEnable, OneExchange}
+use Rattle.demands.specs.Writes.{WritesOwnOctets}
+
+-- "1. Each call answers on every input. .. A refused call gives its number and, for the sheet, the place; state, memory and reply then hold what they
+-- held before." That each call answers is the promise of each function, which has no premise; the rest is here, and that a reset makes every later
+-- state a valid record.
+pub record FirstDemand : Type 0 where
+  pub a-refused-call-changes-nothing : RefusedChangesNothing
+  pub states-stay-valid : StatesStayValid
+
+-- "2. A command is accepted exactly when document 01 accepts it: state, format, span, rights. Reply, next state and memory are the defined ones to the
+-- octet, over every sequence of calls. A write stores its own octets and no others."
+pub record SecondDemand : Type 0 where
+  pub acceptance-is-exact : AcceptanceIsExact
+  pub rights-over-the-whole-span : RightsOverWholeSpan
+  pub over-every-sequence :
+      (sheet state memory : List ℕ) (calls : List Call) (ls : List Left) → History sheet state memory calls ls → ls ≡ runOf sheet state memory calls
+  pub a-write-stores-its-own-octets : WritesOwnOctets
+  pub two-resets-are-one : OneReset
+  pub two-enables-are-one : OneEnable
+  pub two-exchanges-are-one : OneExchange
+
+-- "3. Two runs on memories that differ only in octets without the read right give the same answers, replies and states; afterwards the memories differ
+-- nowhere that they did not differ before, and agree wherever an accepted write reached."
+abbrev pub ThirdDemand : Type 0
+ThirdDemand = Demand3
+
+-- "Demand 2 shuts out five idle programs .. Some meet demand 3 alone": all five keep secrets, and none meets demand 2
+pub record IdlePrograms : Type 0 where
+  pub refusing-all : (Demand2 refusesAll → ⊥) × KeepsSecrets refusesAll
+  pub a-single-reply : (Demand2 singleReply → ⊥) × KeepsSecrets singleReply
+  pub storing-nothing : (Demand2 storesNothing → ⊥) × KeepsSecrets storesNothing
+  pub echoing-afterwards : (Demand2 echoesAfterwards → ⊥) × KeepsSecrets echoesAfterwards
+  pub inventing-rsn : (Demand2 inventsRsn → ⊥) × KeepsSecrets inventsRsn
+
+-- "All eleven are proved": the bench cases, as one list, and that sheet P is valid
+pub record OnTheBench : Type 0 where
+  pub sheet-p : SheetPIsValid
+  pub cases : BenchCases
