@@ -1,5 +1,5 @@
 # Each target only calls the thing that does the work.
-.PHONY: run test kit measure
+.PHONY: run test kit measure soak
 
 # The bench program of document 01: proved, run on sheet P and two commands, compared with crates/bench/stdout, and shown.
 run:
@@ -12,11 +12,13 @@ test:
 
 # The header kit, in dist/.
 kit:
-	@test -x kit/build || { echo "make kit: there is no kit/build in this tree; 'rt staticlib type24' writes target/staticlib/libtype24.a alone" >&2; exit 1; }
 	rt staticlib type24
-	kit/build target/staticlib/libtype24.a dist
+	KIT_ID="$$(rt version)" kit/build target/staticlib/libtype24.a dist
 
-# The figures: our engine beside the plain one.
+# Our engine beside the plain one on the same inputs.
 measure:
-	@test -x peer/measure || { echo "make measure: there is no peer/measure in this tree" >&2; exit 1; }
-	peer/measure
+	peer/run measure
+
+# Both engines on random sequences, as long as one wants: make soak EXCHANGES=1000000000 SEED=7
+soak:
+	peer/run compare $${EXCHANGES:-1000000000} $${SEED:-24} --progress

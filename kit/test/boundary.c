@@ -1,0 +1,59 @@
+/*
+ * Tests the boundary of the library from C: boundary [RANDOM CALLS [stop]].
+ * Under 10000 random calls it is a short run, which samples the long series;
+ * with a second argument it ends at the first group that fails.
+ */
+#include "groups.h"
+
+#include <stdio.h>
+#include <stdlib.h>
+
+#ifdef WRONG_EXPECTATION
+/* Built only to see that a wrong expectation makes the test fail. */
+static void wrong_expectation(void)
+{
+    give_noise(SHEET, 0);
+    label("an empty sheet is not fault", 12);
+    expect(ASK_SHEET, T24_SHEET_KIND);
+}
+#endif
+
+static const struct group groups[] = {
+#ifdef WRONG_EXPECTATION
+    { "a wrong expectation", wrong_expectation },
+#endif
+    { "header: constants", header_constants },
+    { "header: answers and words", header_words },
+    { "bench: the eleven cases", bench_cases },
+    { "bench: the two lines of the bench program", bench_program },
+    { "accident: 32-octet replies, sheet for 64", accident_reply },
+    { "accident: state record of another L", accident_other_l },
+    { "sheet: each fault at each call", sheet_faults },
+    { "sheet: limits met and passed by one", sheet_limits },
+    { "sheet: every octet of two sheets changed", sheet_octets },
+    { "refusals: all mixtures, in order", refusal_order },
+    { "refusals: lengths", refusal_lengths },
+    { "refusals: really big buffers", refusal_big },
+    { "refusals: null pointers of length 0", refusal_empty },
+    { "state: every octet changed", state_octets },
+    { "random calls beside the model", random_calls }
+};
+
+int main(int argc, char **argv)
+{
+    long failures = 0;
+    size_t i;
+
+    if (argc > 1)
+        random_count = atol(argv[1]);
+    if (random_count < 10000)
+        short_run();
+    lend_open();
+    for (i = 0; i < sizeof groups / sizeof groups[0]; i++) {
+        failures += run_group(&groups[i]);
+        if (failures != 0 && argc > 2)
+            break;
+    }
+    printf("boundary: %s\n", failures == 0 ? "ok" : "FAILED");
+    return failures == 0 ? 0 : 1;
+}

@@ -1,0 +1,25 @@
+/* The groups of checks, each in a file of its own. */
+#ifndef GROUPS_H
+#define GROUPS_H
+
+#include "lend.h"
+
+void header_constants(void);
+void header_words(void);
+void sheet_faults(void);
+void sheet_limits(void);
+void sheet_octets(void);
+void refusal_order(void);
+void refusal_lengths(void);
+void refusal_big(void);
+void refusal_empty(void);
+void state_octets(void);
+void accident_reply(void);
+void accident_other_l(void);
+void bench_cases(void);
+void bench_program(void);
+void random_calls(void);
+
+extern long random_count; /* how many random calls to make */
+
+#endif

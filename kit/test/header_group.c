@@ -1,0 +1,85 @@
+/* The header itself: its numbers are the paper's, its words tell apart. */
+#include "groups.h"
+
+#include <string.h>
+
+static const unsigned numbers[] = {
+    0, 1, 2, 3, 4, 5, 6, 11, 12, 13, 14, 15, 16, 17
+};
+
+/* Literal octets stand here on purpose: a slip in the header must show. */
+void header_constants(void)
+{
+    static const unsigned pair[][2] = {
+        { T24_L8, 8 }, { T24_L16, 16 }, { T24_L32, 32 }, { T24_L48, 48 },
+        { T24_L64, 64 }, { T24_L_MAX, 64 }, { T24_STATE_LEN, 10 },
+        { T24_SHEET_MAX, 2048 }, { T24_MEMORY_MAX, 65536 },
+        { T24_DONE, 0 }, { T24_BAD_STATE, 1 }, { T24_BAD_MEMORY, 2 },
+        { T24_BAD_COMMAND, 3 }, { T24_BAD_REPLY, 4 }, { T24_IS_DISABLED, 5 },
+        { T24_NOT_DISABLED, 6 }, { T24_SHEET_CUT, 11 }, { T24_SHEET_KIND, 12 },
+        { T24_SHEET_PLACE, 13 }, { T24_SHEET_RANGE, 14 },
+        { T24_SHEET_ORDER, 15 }, { T24_SHEET_EXCESS, 16 },
+        { T24_SHEET_SPAN, 17 }, { T24_NOP, 0 }, { T24_PRM_RD, 1 },
+        { T24_PRM_WR, 2 }, { T24_ID_RD, 3 }, { T24_ALM_RD, 5 },
+        { T24_ALM_CLR, 6 }, { T24_SYNC_SET, 0x0D }, { T24_CONNECT, 0x0E },
+        { T24_DISCONNECT, 0x0F }, { T24_MEM_RD, 0x1D }, { T24_MEM_WR, 0x1E },
+        { T24_ALARM_NONE, 0 }, { T24_ALARM_CODE, 8 }, { T24_ALARM_DATA, 9 },
+        { T24_ALARM_RIGHTS, 10 }, { T24_ALARM_LINK, 12 },
+        { T24_ALARM_COMMUNICATION, 12 }, { T24_LINK_DISABLED, 0 },
+        { T24_LINK_DISCONNECTED, 1 }, { T24_LINK_ASYNC, 2 },
+        { T24_LINK_SYNC, 3 }, { T24_STATE_KIND, 0x11 }, { T24_AT_KIND, 0 },
+        { T24_AT_LINK, 1 }, { T24_AT_L, 2 }, { T24_AT_DUAL, 3 },
+        { T24_AT_COM_TIME, 4 }, { T24_AT_MN_KNOWN, 5 }, { T24_AT_LAST_MN, 6 },
+        { T24_AT_RSN, 7 }, { T24_AT_COMMAND_ALARM, 8 },
+        { T24_AT_COMMUNICATION_ALARM, 9 }, { T24_RECORD_END, 0 },
+        { T24_RECORD_LINK, 1 }, { T24_RECORD_REGION, 2 },
+        { T24_RECORD_PARAMETER, 3 }, { T24_RECORD_ID, 4 },
+        { T24_RIGHT_READ, 1 }, { T24_RIGHT_WRITE_ASYNC, 2 },
+        { T24_RIGHT_WRITE_SYNC, 4 }, { T24_COM_SYNC, 2 }, { T24_COM_DUAL, 4 },
+        { T24_ELEMENT_1, 0x11 }, { T24_ELEMENT_2, 0x21 },
+        { T24_ELEMENT_4, 0x31 }
+    };
+    size_t i;
+
+    for (i = 0; i < sizeof pair / sizeof pair[0]; i++) {
+        label("constant", (long)i);
+        check(pair[i][0] == pair[i][1], "constant");
+    }
+}
+
+static void answers_taken_apart(void)
+{
+    const uint64_t answer = ((uint64_t)0xFEDCBA98u << 32) + 0x76543210u;
+    const uint8_t reply[4] = { 0, 0, 5, 0xC9 };
+
+    check(t24_number(answer) == 0x76543210u, "number of an answer");
+    check(t24_place(answer) == 0xFEDCBA98u, "place of an answer");
+    check(t24_l(answer) == 0x76543210u, "L of lengths");
+    check(t24_memory(answer) == 0xFEDCBA98u, "memory of lengths");
+    check(t24_reply_alarm(reply) == 9, "alarm of a reply");
+    check(t24_reply_communication_alarm(reply) == 12, "latch of a reply");
+}
+
+void header_words(void)
+{
+    static const unsigned alarms[] = { 0, 8, 9, 10, 12 };
+    size_t i, j;
+
+    answers_taken_apart();
+    for (i = 0; i < sizeof numbers / sizeof numbers[0]; i++) {
+        label("number", (long)numbers[i]);
+        check(strcmp(t24_words(numbers[i]), t24_words(7)) != 0, "no words");
+        for (j = 0; j < i; j++)
+            check(strcmp(t24_words(numbers[i]), t24_words(numbers[j])) != 0,
+                  "same words as another");
+    }
+    for (i = 0; i < sizeof alarms / sizeof alarms[0]; i++) {
+        label("alarm", (long)alarms[i]);
+        check(strcmp(t24_alarm_words(alarms[i]), t24_alarm_words(1)) != 0,
+              "no words");
+        for (j = 0; j < i; j++)
+            check(strcmp(t24_alarm_words(alarms[i]),
+                         t24_alarm_words(alarms[j])) != 0,
+                  "same words as another");
+    }
+}

@@ -1,0 +1,268 @@
+/* Lends octet buffers to the library between fences, and checks them after. */
+#ifndef _DEFAULT_SOURCE
+#define _DEFAULT_SOURCE 1 /* mmap with MAP_ANONYMOUS is not plain C99 */
+#endif
+#include "lend.h"
+#include "model.h"
+
+#include <signal.h>
+#include <stdio.h>
+#include <stdlib.h>
+#include <string.h>
+#include <sys/mman.h>
+#include <unistd.h>
+
+#define GUARD 256u       /* guard octets on the side that has no fence */
+#define REPORTS_SHOWN 10 /* one fault often shows thousands of times */
+
+static struct {
+    uint8_t given[LENT_MAX];
+    uint8_t wanted[LENT_MAX];
+    size_t len;
+    uint8_t *room; /* LENT_MAX and one page between two untouchable pages */
+    uint8_t *at;   /* where the library sees the buffer */
+} lent[ROLES];
+
+static size_t room_len;
+static long calls, failures;
+static const char *group_name = "", *label_text = "";
+static long label_number;
+
+static const char *const role_name[ROLES] = {
+    "sheet", "state", "memory", "command", "reply"
+};
+
+/* A touched fence ends the test with words instead of a bare signal. */
+static void on_fence(int signal_number)
+{
+    static const char words[] = "FAILED: the library touched a fence in: ";
+    (void)signal_number;
+    if (write(2, words, sizeof words - 1) < 0
+        || write(2, group_name, strlen(group_name)) < 0
+        || write(2, "\n", 1) < 0)
+        _exit(3);
+    _exit(2);
+}
+
+void lend_open(void)
+{
+    const size_t page = (size_t)sysconf(_SC_PAGESIZE);
+    int r;
+
+    room_len = LENT_MAX + page;
+    for (r = 0; r < ROLES; r++) {
+        void *all = mmap(NULL, room_len + 2 * page, PROT_NONE,
+                         MAP_PRIVATE | MAP_ANONYMOUS, -1, 0);
+        if (all == MAP_FAILED
+            || mprotect((uint8_t *)all + page, room_len,
+                        PROT_READ | PROT_WRITE) != 0) {
+            perror("mmap");
+            exit(3);
+        }
+        lent[r].room = (uint8_t *)all + page;
+    }
+    signal(SIGSEGV, on_fence);
+    signal(SIGBUS, on_fence);
+}
+
+void give(enum role role, const uint8_t *octets, size_t len)
+{
+    lent[role].len = len;
+    if (len == 0)
+        return;
+    memmove(lent[role].given, octets, len);
+    memcpy(lent[role].wanted, lent[role].given, len);
+}
+
+void give_noise(enum role role, size_t len)
+{
+    size_t i;
+
+    lent[role].len = len;
+    for (i = 0; i < len; i++)
+        lent[role].given[i] = (uint8_t)(0xC3u ^ (i * 7u));
+    memcpy(lent[role].wanted, lent[role].given, len);
+}
+
+uint8_t *given(enum role role) { return lent[role].given; }
+size_t given_len(enum role role) { return lent[role].len; }
+uint8_t *wanted(enum role role) { return lent[role].wanted; }
+
+void go_on(enum role role)
+{
+    memcpy(lent[role].given, lent[role].wanted, lent[role].len);
+}
+
+static uint8_t guard_octet(size_t i)
+{
+    return (uint8_t)(0x5Au ^ i);
+}
+
+/* The guard octets lie on the side away from the fence. */
+static uint8_t *guards_of(int role, int back)
+{
+    return back ? lent[role].at - GUARD : lent[role].at + lent[role].len;
+}
+
+static void place(int role, int back)
+{
+    size_t i;
+    uint8_t *guards;
+
+    lent[role].at = lent[role].room;
+    if (back)
+        lent[role].at += room_len - lent[role].len;
+    memcpy(lent[role].at, lent[role].given, lent[role].len);
+    guards = guards_of(role, back);
+    for (i = 0; i < GUARD; i++)
+        guards[i] = guard_octet(i);
+}
+
+static int fail(const char *what, int role, size_t at)
+{
+    if (failures++ < REPORTS_SHOWN)
+        fprintf(stderr, "  %s, %s %ld: %s %s at octet %lu\n", group_name,
+                label_text, label_number, role < ROLES ? role_name[role] : "",
+                what, (unsigned long)at);
+    return 0;
+}
+
+static int intact(int role, int back)
+{
+    const uint8_t *guards = guards_of(role, back);
+    size_t i;
+
+    for (i = 0; i < GUARD; i++)
+        if (guards[i] != guard_octet(i))
+            return fail("guard changed", role, i);
+    if (memcmp(lent[role].at, lent[role].wanted, lent[role].len) == 0)
+        return 1;
+    for (i = 0; lent[role].at[i] == lent[role].wanted[i]; i++)
+        continue;
+    return fail("not as wanted", role, i);
+}
+
+static uint64_t ask(enum which which)
+{
+    switch (which) {
+    case ASK_SHEET:
+        return t24_sheet(lent[SHEET].at, lent[SHEET].len);
+    case ASK_LENGTHS:
+        return t24_lengths(lent[SHEET].at, lent[SHEET].len);
+    case ASK_RESET:
+        return t24_reset(lent[SHEET].at, lent[SHEET].len,
+                         lent[STATE].at, lent[STATE].len);
+    case ASK_ENABLE:
+        return t24_enable(lent[SHEET].at, lent[SHEET].len,
+                          lent[STATE].at, lent[STATE].len);
+    default:
+        return t24_exchange(lent[SHEET].at, lent[SHEET].len,
+                            lent[STATE].at, lent[STATE].len,
+                            lent[MEMORY].at, lent[MEMORY].len,
+                            lent[COMMAND].at, lent[COMMAND].len,
+                            lent[REPLY].at, lent[REPLY].len);
+    }
+}
+
+/* The const buffers are made unwritable, so even a restored write shows. */
+static void lock(int protection)
+{
+    if (mprotect(lent[SHEET].room, room_len, protection) != 0
+        || mprotect(lent[COMMAND].room, room_len, protection) != 0)
+        exit(3);
+}
+
+static int call_and_compare(enum which which, uint64_t answer, int back,
+                            int locked)
+{
+    uint64_t got;
+    int r, right = 1;
+
+    for (r = 0; r < ROLES; r++)
+        place(r, back);
+    if (locked)
+        lock(PROT_READ);
+    got = ask(which);
+    if (locked)
+        lock(PROT_READ | PROT_WRITE);
+    calls++;
+    if (got != answer) {
+        if (failures < REPORTS_SHOWN)
+            fprintf(stderr, "  answer number %lu place %lu, wanted %lu %lu\n",
+                    (unsigned long)t24_number(got),
+                    (unsigned long)t24_place(got),
+                    (unsigned long)t24_number(answer),
+                    (unsigned long)t24_place(answer));
+        right = fail("answer", ROLES, 0);
+    }
+    for (r = 0; r < ROLES; r++)
+        right = intact(r, back) && right;
+    return right;
+}
+
+int expect_on_side(enum which which, uint64_t answer, int back)
+{
+    return call_and_compare(which, answer, back, calls % 64 == 0);
+}
+
+int expect(enum which which, uint64_t answer)
+{
+    const int front_right = call_and_compare(which, answer, 0, 1);
+    return call_and_compare(which, answer, 1, 1) && front_right;
+}
+
+uint64_t ask_model(enum which which)
+{
+    return model_ask(which, lent[SHEET].given, lent[SHEET].len,
+                     lent[STATE].wanted, lent[STATE].len,
+                     lent[MEMORY].wanted, lent[MEMORY].len,
+                     lent[COMMAND].given, lent[COMMAND].len,
+                     lent[REPLY].wanted, lent[REPLY].len);
+}
+
+int expect_model(enum which which)
+{
+    return expect(which, ask_model(which));
+}
+
+void check(int right, const char *what)
+{
+    calls++;
+    if (!right)
+        fail(what, ROLES, 0);
+}
+
+static int try_every = 1;
+
+void short_run(void)
+{
+    try_every = 17; /* shares no factor with the lengths of the series */
+}
+
+int left_out(void)
+{
+    static long turn;
+
+    return turn++ % try_every != 0;
+}
+
+void label(const char *text, long number)
+{
+    label_text = text;
+    label_number = number;
+}
+
+long run_group(const struct group *group)
+{
+    group_name = group->name;
+    calls = 0;
+    failures = 0;
+    label("start", 0);
+    group->run();
+    if (failures == 0)
+        printf("%-44s %8ld checks  ok\n", group->name, calls);
+    else
+        printf("%-44s %8ld checks  FAILED %ld\n", group->name, calls, failures);
+    fflush(stdout);
+    return failures;
+}

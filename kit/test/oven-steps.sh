@@ -1,0 +1,88 @@
+# Sourced by steps.sh: the example host, and archives the build must refuse.
+# shellcheck shell=sh disable=SC2086,SC2154 # several words, set by test-kit
+
+# octets HEX...: writes them to standard output.
+octets() {
+    for octet in "$@"; do
+        # shellcheck disable=SC2059 # the format is the octet itself
+        printf "\\$(printf %03o "0x$octet")"
+    done
+}
+
+make_sheets() {
+    octets 01 10 30 00 02 00 10 00 00 04 00 00 00 03 \
+        02 04 10 00 00 04 00 00 00 06 03 07 00 02 10 00 00 02 00 >"$work/p.bin"
+    head -c 32 "$work/p.bin" >"$work/cut.bin"
+    octets 01 08 30 00 00 >"$work/bare.bin"
+    octets 01 10 30 00 02 00 10 00 00 04 00 00 00 01 00 >"$work/readonly.bin"
+    cat >"$work/p.want" <<'END'
+L 16, memory 8 octets
+CONNECT    0E000400300001000000000000000000
+MEM_RD     1D000400002101000010000000000000
+MEM_WR     1E0004000021010000100000B4000000
+DISCONNECT 0F000400000000000000000000000000
+END
+}
+
+# refused_with SHEET WORDS: the oven fails and says why.
+refused_with() {
+    if run "$work/oven" "$work/$1" >"$work/out" 2>&1; then
+        fail "the oven took $1"
+    fi
+    grep -qF "$2" "$work/out" || { cat "$work/out"; fail "not said: $2"; }
+    grep -F "$2" "$work/out"
+}
+
+test_oven() {
+    say "oven"
+    make_sheets
+    $CPP "$dist/example/oven.c" $LIB -o "$work/oven"
+    run "$work/oven" "$work/p.bin" | cmp - "$work/p.want" || fail "oven in C++"
+    $C -static "$dist/example/oven.c" $LIB -o "$work/oven"
+    run "$work/oven" "$work/p.bin" >"$work/out" || fail "oven"
+    cmp "$work/out" "$work/p.want" || fail "oven's replies"
+    cat "$work/out"
+    refused_with cut.bin "sheet refused: number 11, sheet: ends too early or is too long, at octet 32"
+    refused_with bare.bin "MEM_RD refused: alarm 9, a field of the command is wrong"
+    refused_with readonly.bin "MEM_WR refused: alarm 10, no right to part of the span"
+    test_pkg_config
+}
+
+test_pkg_config() {
+    if ! command -v pkg-config >/dev/null 2>&1; then
+        echo "note: pkg-config is not installed, so without it"
+        return
+    fi
+    flags=$(PKG_CONFIG_PATH="$dist/lib/pkgconfig" pkg-config --cflags --libs type24)
+    $CC -std=c99 $WARN -static "$dist/example/oven.c" $flags -o "$work/oven"
+    run "$work/oven" "$work/p.bin" | cmp - "$work/p.want" || fail "oven by pkg-config"
+    echo "pkg-config: ok"
+}
+
+# refused_archive NAME WORDS CODE: with one object more it must not build.
+refused_archive() {
+    printf '%s\n' "$3" >"$work/more.c"
+    $CC -O2 -fno-builtin -c "$work/more.c" -o "$work/more.o"
+    cp "$dist/lib/libtype24.a" "$work/more.a"
+    $AR r "$work/more.a" "$work/more.o"
+    must_fail "$1" "$2" env KIT_ID=none "$kit/build" "$work/more.a" "$work/refused"
+    [ ! -e "$work/refused" ] || fail "a refused archive left a kit"
+}
+
+test_refused_archives() {
+    say "archives the build refuses"
+    AR=${NM%nm}ar
+    refused_archive "a foreign name" "foreign name" \
+        'int oven; int foreign(void) { return 1; }'
+    refused_archive "a need of libc" "needs malloc" \
+        'void *malloc(unsigned long); void *t24_more(void) { return malloc(1); }'
+    refused_archive "kept data" "keeps data" \
+        'static int kept; int t24_more(void) { return ++kept; }'
+    : >"$work/empty.a"
+    must_fail "an empty archive" "lacks t24_\|cannot read" \
+        env KIT_ID=none "$kit/build" "$work/empty.a" "$work/refused"
+    must_fail "a KIT_ID that breaks the header" "odd" \
+        env KIT_ID='"' "$kit/build" "$dist/lib/libtype24.a" "$work/refused"
+    must_fail "no KIT_ID" "must name" \
+        env KIT_ID= "$kit/build" "$dist/lib/libtype24.a" "$work/refused"
+}

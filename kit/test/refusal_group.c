@@ -1,0 +1,224 @@
+/* Refusals 1 to 6: mixtures of wrong things answer the first in the order. */
+#include "groups.h"
+#include "sheets.h"
+
+#include <string.h>
+
+/* Wrong lengths near the right one; index 0 is right. */
+static size_t off(size_t right, int variant)
+{
+    switch (variant) {
+    case 0: return right;
+    case 1: return 0;
+    case 2: return right - 1;
+    default: return right + 1;
+    }
+}
+
+/* One sheet for each fault 11 to 17, index 0 is good. */
+static uint64_t give_sheet(unsigned l, int variant)
+{
+    static const uint8_t place[] = { 0, 32, 32, 33, 0, 14, 4, 24 };
+    struct built sheet;
+
+    build_p(&sheet, l);
+    switch (variant) {
+    case 1: sheet.octets[32] = T24_RECORD_ID; break;
+    case 2: sheet.octets[32] = 5; break;
+    case 3: add_octet(&sheet, 0); break;
+    case 4: sheet.octets[1] = 7; break;
+    case 5: sheet.octets[15] = 0x03; break;
+    case 6: sheet.octets[11] = 1; break;
+    case 7: sheet.octets[31] = 7; break;
+    default: break;
+    }
+    give(SHEET, sheet.octets, sheet.len);
+    if (variant == 0)
+        return T24_DONE;
+    return 10u + (unsigned)variant + ((uint64_t)place[variant] << 32);
+}
+
+enum { STATE_VARIANTS = 7 };
+
+/* Index 0 is good; then wrong lengths, and wrong contents of right length. */
+static void give_state(unsigned l, unsigned link, int variant)
+{
+    uint8_t state[T24_STATE_LEN + 1] = { T24_STATE_KIND };
+
+    state[T24_AT_LINK] = (uint8_t)link;
+    state[T24_AT_L] = (uint8_t)l;
+    state[T24_AT_COM_TIME] = link >= T24_LINK_ASYNC;
+    if (variant == 4)
+        state[T24_AT_KIND] = 0x12;
+    if (variant == 5)
+        state[T24_AT_L] = (uint8_t)(l == 16 ? 32 : 16);
+    if (variant == 6)
+        state[T24_AT_COMMUNICATION_ALARM] = 8;
+    give(STATE, state, off(T24_STATE_LEN, variant > 3 ? 0 : variant));
+}
+
+static void mixture_of_exchange(unsigned l, uint64_t sheet_answer, int state,
+                                int memory, int command, int reply,
+                                unsigned link)
+{
+    uint64_t answer = T24_DONE;
+
+    if (left_out())
+        return;
+    give_state(l, link, state);
+    give_noise(MEMORY, off(8, memory));
+    give_noise(COMMAND, off(l, command));
+    give_noise(REPLY, off(l, reply));
+    if (sheet_answer != T24_DONE)
+        answer = sheet_answer;
+    else if (state != 0)
+        answer = T24_BAD_STATE;
+    else if (memory != 0)
+        answer = T24_BAD_MEMORY;
+    else if (command != 0)
+        answer = T24_BAD_COMMAND;
+    else if (reply != 0)
+        answer = T24_BAD_REPLY;
+    else if (link == T24_LINK_DISABLED)
+        answer = T24_IS_DISABLED;
+    if (answer == T24_DONE)
+        ask_model(ASK_EXCHANGE);
+    expect(ASK_EXCHANGE, answer);
+}
+
+static void mixtures_of_exchange(unsigned l, int sheet)
+{
+    int state, memory, command, reply;
+    unsigned link;
+
+    for (state = 0; state < STATE_VARIANTS; state++)
+        for (memory = 0; memory < 4; memory++)
+            for (command = 0; command < 4; command++)
+                for (reply = 0; reply < 4; reply++)
+                    for (link = 0; link < 3; link++)
+                        mixture_of_exchange(l, give_sheet(l, sheet), state,
+                                            memory, command, reply, link);
+}
+
+static void mixtures_of_reset_and_enable(unsigned l, int sheet)
+{
+    uint64_t fault;
+    unsigned link;
+    int state;
+
+    for (state = 0; state < STATE_VARIANTS; state++)
+        for (link = 0; link < 4; link++) {
+            fault = give_sheet(l, sheet);
+            give_state(l, link, state);
+            if (fault == T24_DONE && state != 0)
+                fault = T24_BAD_STATE;
+            if (fault == T24_DONE && link != T24_LINK_DISABLED)
+                fault = T24_NOT_DISABLED;
+            if (fault == T24_DONE)
+                wanted(STATE)[T24_AT_LINK] = T24_LINK_DISCONNECTED;
+            expect(ASK_ENABLE, fault);
+            fault = give_sheet(l, sheet);
+            give_state(l, link, state);
+            if (fault == T24_DONE && state >= 1 && state <= 3)
+                fault = T24_BAD_STATE; /* reset minds the length alone */
+            if (fault == T24_DONE) {
+                memset(wanted(STATE), 0, T24_STATE_LEN);
+                wanted(STATE)[T24_AT_KIND] = T24_STATE_KIND;
+                wanted(STATE)[T24_AT_L] = (uint8_t)l;
+            }
+            expect(ASK_RESET, fault);
+        }
+}
+
+void refusal_order(void)
+{
+    size_t i;
+    int sheet;
+
+    for (sheet = 0; sheet < 8; sheet++)
+        for (i = 0; i < sizeof all_l; i++) {
+            label("sheet variant", sheet);
+            mixtures_of_reset_and_enable(all_l[i], sheet);
+            if (sheet == 0 || i == 1)
+                mixtures_of_exchange(all_l[i], sheet);
+        }
+}
+
+/* All the lengths of one buffer from 0 to well past the right one. */
+static void lengths_of(enum role role, size_t right, unsigned number)
+{
+    size_t len;
+
+    for (len = 0; len <= 2 * right + 70; len++) {
+        if (len == right)
+            continue;
+        if (len > right + 1 && left_out())
+            continue;
+        label("length", (long)len);
+        give_noise(role, len);
+        expect(ASK_EXCHANGE, number);
+        if (role == STATE) {
+            expect(ASK_ENABLE, number);
+            expect(ASK_RESET, number);
+        }
+    }
+    give_noise(role, right);
+}
+
+void refusal_lengths(void)
+{
+    size_t i;
+
+    for (i = 0; i < sizeof all_l; i++) {
+        give_sheet(all_l[i], 0);
+        give_noise(MEMORY, 8);
+        give_noise(COMMAND, all_l[i]);
+        give_noise(REPLY, all_l[i]);
+        lengths_of(STATE, T24_STATE_LEN, T24_BAD_STATE);
+        give_state(all_l[i], T24_LINK_ASYNC, 0);
+        lengths_of(MEMORY, 8, T24_BAD_MEMORY);
+        lengths_of(COMMAND, all_l[i], T24_BAD_COMMAND);
+        lengths_of(REPLY, all_l[i], T24_BAD_REPLY);
+    }
+}
+
+/* Lengths that are right modulo 2^8 or 2^16 must not pass for right. */
+static void big(enum role role, size_t right, unsigned number)
+{
+    label("big buffer, role", role);
+    give_noise(role, right + 256);
+    expect(ASK_EXCHANGE, number);
+    give_noise(role, right + 65536);
+    expect(ASK_EXCHANGE, number);
+    give_noise(role, LENT_MAX);
+    expect(ASK_EXCHANGE, number);
+    if (role == STATE || role == SHEET) {
+        expect(ASK_ENABLE, number);
+        expect(ASK_RESET, number);
+    }
+}
+
+void refusal_big(void)
+{
+    struct built sheet;
+
+    build_p(&sheet, 64);
+    give_state(64, T24_LINK_ASYNC, 0);
+    give_noise(MEMORY, 8);
+    give_noise(COMMAND, 64);
+    give_noise(REPLY, 64);
+    give_noise(SHEET, 65536 + 33);
+    expect(ASK_SHEET, T24_SHEET_CUT);
+    give_noise(SHEET, LENT_MAX);
+    expect(ASK_SHEET, T24_SHEET_CUT);
+    expect(ASK_LENGTHS, 0);
+    big(SHEET, 33 + 2048, T24_SHEET_CUT);
+    give(SHEET, sheet.octets, sheet.len);
+    big(STATE, T24_STATE_LEN, T24_BAD_STATE);
+    give_state(64, T24_LINK_ASYNC, 0);
+    big(MEMORY, 8, T24_BAD_MEMORY);
+    give_noise(MEMORY, 8);
+    big(COMMAND, 64, T24_BAD_COMMAND);
+    give_noise(COMMAND, 64);
+    big(REPLY, 64, T24_BAD_REPLY);
+}

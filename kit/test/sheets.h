@@ -1,0 +1,34 @@
+/* Sheets to test with, put together record by record. */
+#ifndef SHEETS_H
+#define SHEETS_H
+
+#include "type24.h"
+
+#define BUILT_MAX 8192
+
+struct built {
+    uint8_t octets[BUILT_MAX];
+    size_t len;
+};
+
+extern const uint8_t sheet_p[33];   /* the bench's sheet, L 16, 8 octets of memory */
+extern const uint8_t memory_p[8];   /* the bench's memory */
+extern const uint8_t state_a[T24_STATE_LEN]; /* AsyncConnected, L 16 */
+extern const uint8_t all_l[5];
+
+void add_octet(struct built *sheet, unsigned octet);
+void add_link(struct built *sheet, unsigned l);
+void add_region(struct built *sheet, uint64_t start, uint64_t length,
+                unsigned rights);
+void add_parameter(struct built *sheet, unsigned number, uint64_t address,
+                   unsigned size);
+void add_item(struct built *sheet, unsigned code, unsigned length);
+void add_end(struct built *sheet);
+
+/* Sheet P with another L. */
+void build_p(struct built *sheet, unsigned l);
+
+/* Every record there may be: the most a call ever has to read. */
+void build_largest(struct built *sheet, unsigned l);
+
+#endif

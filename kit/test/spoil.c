@@ -1,0 +1,126 @@
+/*
+ * Stands between the test and the library and spoils one thing at a time, as
+ * the variable SPOIL says, so that it shows whether the test notices.
+ * Linked with --wrap for each of the five calls.
+ */
+#include "type24.h"
+
+#include <stdlib.h>
+#include <string.h>
+
+uint64_t __real_t24_sheet(const uint8_t *, size_t);
+uint64_t __real_t24_lengths(const uint8_t *, size_t);
+uint64_t __real_t24_reset(const uint8_t *, size_t, uint8_t *, size_t);
+uint64_t __real_t24_enable(const uint8_t *, size_t, uint8_t *, size_t);
+uint64_t __real_t24_exchange(const uint8_t *, size_t, uint8_t *, size_t,
+                             uint8_t *, size_t, const uint8_t *, size_t,
+                             uint8_t *, size_t);
+uint64_t __wrap_t24_sheet(const uint8_t *, size_t);
+uint64_t __wrap_t24_lengths(const uint8_t *, size_t);
+uint64_t __wrap_t24_reset(const uint8_t *, size_t, uint8_t *, size_t);
+uint64_t __wrap_t24_enable(const uint8_t *, size_t, uint8_t *, size_t);
+uint64_t __wrap_t24_exchange(const uint8_t *, size_t, uint8_t *, size_t,
+                             uint8_t *, size_t, const uint8_t *, size_t,
+                             uint8_t *, size_t);
+
+static int spoil(int number)
+{
+    static int chosen = -1;
+
+    if (chosen < 0)
+        chosen = getenv("SPOIL") ? atoi(getenv("SPOIL")) : 0;
+    return chosen == number;
+}
+
+uint64_t __wrap_t24_sheet(const uint8_t *sheet, size_t len)
+{
+    const uint64_t answer = __real_t24_sheet(sheet, len);
+
+    if (spoil(1) && t24_number(answer) == T24_SHEET_PLACE)
+        return answer + ((uint64_t)1 << 32); /* a place one too far */
+    if (spoil(2) && t24_number(answer) == T24_SHEET_EXCESS)
+        return answer - 1; /* order told for excess */
+    return answer;
+}
+
+uint64_t __wrap_t24_lengths(const uint8_t *sheet, size_t len)
+{
+    const uint64_t answer = __real_t24_lengths(sheet, len);
+
+    if (spoil(3) && t24_memory(answer) == T24_MEMORY_MAX)
+        return t24_l(answer); /* the memory length in 16 bits */
+    return answer;
+}
+
+uint64_t __wrap_t24_reset(const uint8_t *sheet, size_t sheet_len,
+                          uint8_t *state, size_t state_len)
+{
+    if (spoil(4) && state_len > T24_STATE_LEN)
+        state_len = T24_STATE_LEN; /* a longer record passes */
+    return __real_t24_reset(sheet, sheet_len, state, state_len);
+}
+
+uint64_t __wrap_t24_enable(const uint8_t *sheet, size_t sheet_len,
+                           uint8_t *state, size_t state_len)
+{
+    const uint64_t answer =
+        __real_t24_enable(sheet, sheet_len, state, state_len);
+
+    if (spoil(5) && answer == T24_NOT_DISABLED)
+        return T24_DONE;
+    if (spoil(6) && answer == T24_NOT_DISABLED)
+        state[T24_AT_COMMAND_ALARM] ^= 8; /* a refusal that writes */
+    return answer;
+}
+
+/* What goes wrong before the library sees the call. */
+static int spoil_order(size_t memory_len, size_t command_len, size_t reply_len,
+                       uint64_t answer)
+{
+    if (spoil(7) && answer == T24_BAD_COMMAND && reply_len != command_len)
+        return 1; /* 4 told before 3 */
+    return spoil(8) && answer == T24_BAD_MEMORY && memory_len > 65536;
+}
+
+static void spoil_buffers(uint64_t answer, const uint8_t *sheet,
+                          uint8_t *memory, size_t memory_len,
+                          const uint8_t *command, size_t command_len,
+                          uint8_t *reply, size_t reply_len)
+{
+    static unsigned turn;
+
+    turn++;
+    if (spoil(9) && answer == T24_BAD_REPLY)
+        reply[reply_len] = 0; /* the overrun that once was */
+    if (spoil(10) && reply_len > 0)
+        reply[-1] = 0;
+    if (spoil(11) && memory_len > 0)
+        *(volatile uint8_t *)(size_t)sheet = sheet[0]; /* even the same octet */
+    if (spoil(12) && command_len > 0)
+        reply[0] = *(const volatile uint8_t *)(command + command_len);
+    if (spoil(13) && answer == T24_DONE && reply[0] == T24_MEM_RD)
+        reply[reply_len - 1] ^= 0x80; /* an old octet behind the data */
+    if (spoil(14) && answer == T24_DONE && reply[0] == T24_MEM_WR)
+        memory[memory_len - 1] ^= 1;
+    if (spoil(15) && answer == T24_DONE && turn % 1000 == 0)
+        reply[1] ^= 0x10; /* something kept from call to call */
+}
+
+uint64_t __wrap_t24_exchange(const uint8_t *sheet, size_t sheet_len,
+                             uint8_t *state, size_t state_len,
+                             uint8_t *memory, size_t memory_len,
+                             const uint8_t *command, size_t command_len,
+                             uint8_t *reply, size_t reply_len)
+{
+    uint64_t answer = __real_t24_exchange(sheet, sheet_len, state, state_len,
+                                          memory, memory_len, command,
+                                          command_len, reply, reply_len);
+
+    if (spoil_order(memory_len, command_len, reply_len, answer))
+        answer = T24_BAD_REPLY;
+    if (spoil(16) && answer == T24_DONE && state[T24_AT_LAST_MN] == 15)
+        state[T24_AT_LAST_MN] = 14; /* 15 to 0 then looks like a lost cycle */
+    spoil_buffers(answer, sheet, memory, memory_len, command, command_len,
+                  reply, reply_len);
+    return answer;
+}

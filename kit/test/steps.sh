@@ -1,0 +1,108 @@
+# Sourced by test-kit: the steps, with DIST in $dist and scratch room in $work.
+# shellcheck shell=sh disable=SC2086,SC2154 # several words, set by test-kit
+
+test_contents() {
+    say "contents"
+    for file in include/type24.h include/type24_version.h lib/libtype24.a \
+        lib/pkgconfig/type24.pc doc/LINKING.md example/oven.c VERSION; do
+        [ -f "$dist/$file" ] || fail "the kit lacks $file"
+    done
+    cat "$dist/VERSION"
+    cat >"$work/version.c" <<'END'
+#include <stdio.h>
+#include "type24.h"
+#include "type24_version.h"
+int main(void)
+{
+    return printf("version %s\nproved with %s\n", T24_VERSION, T24_PROVED_WITH) < 0;
+}
+END
+    $C "$work/version.c" -o "$work/version"
+    run "$work/version" | cmp - "$dist/VERSION" || fail "VERSION and headers differ"
+}
+
+# Twice in one file, alone, and under warnings stricter than the tests' own.
+test_header() {
+    say "header alone"
+    printf '#include "type24.h"\n#include "type24.h"\n' >"$work/header.c"
+    strict="-Wconversion -Wsign-conversion -Wshadow -Wundef"
+    $C $strict -c "$work/header.c" -o "$work/header.o"
+    $CPP $strict -Wold-style-cast -c "$work/header.c" -o "$work/header.o"
+    echo "C99 and C++11: no warning"
+}
+
+test_boundary_in_c() {
+    say "boundary, C99, static"
+    $C -static $SOURCES $LIB -o "$work/boundary"
+    run "$work/boundary" 300000 || fail "boundary in C"
+}
+
+test_boundary_in_cpp() {
+    say "boundary, C++11, position independent"
+    $CPP -fPIE -pie $SOURCES $LIB -o "$work/boundary-cpp"
+    run "$work/boundary-cpp" 300000 || fail "boundary in C++"
+}
+
+# An emulator has no room for the address sanitizer's shadow, so it is left out.
+test_with_checkers() {
+    sanitize="-g -fsanitize=undefined -fno-sanitize-recover=all"
+    if [ "$NATIVE" = yes ]; then
+        sanitize="$sanitize -fsanitize=address"
+        test_with_valgrind
+    else
+        say "note: emulated, so without valgrind and the address sanitizer"
+    fi
+    say "boundary, C99, sanitizers"
+    $C $sanitize $SOURCES $LIB -o "$work/boundary-sanitized"
+    run "$work/boundary-sanitized" 20000 || fail "boundary with sanitizers"
+}
+
+test_with_valgrind() {
+    if ! command -v valgrind >/dev/null 2>&1; then
+        say "note: valgrind is not installed, so without it"
+        return
+    fi
+    say "boundary, C99, valgrind"
+    $C -g $SOURCES $LIB -o "$work/boundary-valgrind"
+    valgrind -q --error-exitcode=9 "$work/boundary-valgrind" 5000 \
+        || fail "boundary under valgrind"
+}
+
+test_that_tests_fail() {
+    say "the tests can fail"
+    $C -static -DWRONG_EXPECTATION $SOURCES $LIB -o "$work/wrong"
+    must_fail "a wrong expectation" FAILED run "$work/wrong" 0 stop
+    wrap=
+    for name in sheet lengths reset enable exchange; do
+        wrap="$wrap -Wl,--wrap=t24_$name"
+    done
+    $C -static $SOURCES spoil.c $LIB $wrap -o "$work/spoiled"
+    export SPOIL=0
+    run "$work/spoiled" 9000 stop >"$work/out" || fail "unspoiled, yet fails"
+    for number in 1 2 3 4 5 6 7 8 9 10 11 12 13 14 15 16; do
+        SPOIL=$number
+        must_fail "spoil $number" FAILED run "$work/spoiled" 9000 stop
+    done
+    unset SPOIL
+}
+
+test_stack() {
+    say "stack"
+    $C -static stack.c sheets.c $LIB -o "$work/stack"
+    run "$work/stack" || fail "stack"
+}
+
+# The page's first exchange must be what a reader can type off.
+test_linking_page() {
+    say "first exchange of LINKING.md"
+    awk '/^```c$/ { on = 1; next } /^```$/ { on = 0 } on' \
+        "$dist/doc/LINKING.md" >"$work/first.c"
+    [ "$(wc -l <"$work/first.c")" -le 20 ] || fail "over twenty lines"
+    $C -static "$work/first.c" -L"$dist/lib" -ltype24 -o "$work/first"
+    [ "$(run "$work/first")" = accepted ] || fail "first exchange"
+    $CPP "$work/first.c" -L"$dist/lib" -ltype24 -o "$work/first"
+    [ "$(run "$work/first")" = accepted ] || fail "first exchange in C++"
+    echo "accepted"
+}
+
+. "$kit/test/oven-steps.sh"

@@ -1,0 +1,52 @@
+# Sourced by build and test-kit: which tools make and run x86-64 programs here.
+# shellcheck shell=sh disable=SC2034
+
+if [ "$(uname -m)" = x86_64 ]; then
+    NATIVE=yes
+    CC=gcc CXX=g++ NM=nm
+    PACKAGES="gcc g++ libc6-dev binutils"
+else
+    NATIVE=no
+    CC=x86_64-linux-gnu-gcc CXX=x86_64-linux-gnu-g++ NM=x86_64-linux-gnu-nm
+    PACKAGES="gcc-x86-64-linux-gnu g++-x86-64-linux-gnu libc6-dev-amd64-cross qemu-user"
+fi
+
+fail() {
+    echo "kit: $*" >&2
+    exit 1
+}
+
+# need TOOL...: installs the Debian packages if one of the tools is missing.
+need() {
+    for tool in "$@"; do
+        command -v "$tool" >/dev/null 2>&1 && continue
+        echo "kit: $tool is missing, installing $PACKAGES" >&2
+        # shellcheck disable=SC2086 # the packages are several words
+        { apt-get update && DEBIAN_FRONTEND=noninteractive \
+            apt-get install -y --no-install-recommends $PACKAGES; } >&2 \
+            || fail "could not install $PACKAGES"
+        break
+    done
+    for tool in "$@"; do
+        command -v "$tool" >/dev/null 2>&1 || fail "$tool is missing"
+    done
+}
+
+need_compilers() {
+    if [ "$NATIVE" = yes ]; then
+        need "$CC" "$CXX" "$NM"
+    else
+        need "$CC" "$CXX" "$NM" qemu-x86_64
+        # The C library beside the cross compiler, not one of another version.
+        LIBS=$(dirname "$("$CC" -print-file-name=libc.so.6)")
+    fi
+}
+
+# run PROGRAM ARGUMENT...: natively, or emulated with the cross C library.
+run() {
+    if [ "$NATIVE" = yes ]; then
+        "$@"
+    else
+        qemu-x86_64 -L "$LIBS/.." -E "LD_LIBRARY_PATH=$LIBS" "$@"
+    fi
+}

@@ -1,0 +1,257 @@
+/*
+ * type24.h - the Type 24 fieldbus slave of Hishvundar, called from C or C++.
+ *
+ * Built: the slave end of cyclic communication of IEC 61158-6-24, enhanced
+ * PDU type, PDU length L of 8, 16, 32, 48 or 64 octets.
+ *
+ * Everything goes over octet buffers that the host lends for one call, each
+ * with its length, so no struct layout is shared.  Rules for every call:
+ *
+ *  - A pointer must lead to as many octets as the length beside it says;
+ *    with length 0 it is not followed.
+ *  - Buffers lent in one call must not overlap: the host's duty, not checked.
+ *  - const buffers are only read; of the others a call writes no octet but
+ *    those named with it, and nothing at all unless it answers T24_DONE.
+ *  - No call keeps anything: no global data, no pointer, no heap.  Every call
+ *    is reentrant; threads may call at once as long as no buffer that one of
+ *    them writes is shared.  A call needs up to about 20 KiB of stack.
+ *  - Numbers of more than one octet in sheet, command and reply are sent low
+ *    octet first.
+ */
+#ifndef TYPE24_H
+#define TYPE24_H
+
+#include <stddef.h>
+#include <stdint.h>
+
+#define T24_VERSION "1.0.0" /* T24_PROVED_WITH stands in type24_version.h */
+
+/* Lengths, in octets. */
+#define T24_L8 8 /* the five PDU lengths L */
+#define T24_L16 16
+#define T24_L32 32
+#define T24_L48 48
+#define T24_L64 64
+#define T24_L_MAX 64         /* no command or reply is longer */
+#define T24_STATE_LEN 10     /* every state record */
+#define T24_SHEET_MAX 2048   /* no accepted sheet is longer */
+#define T24_MEMORY_MAX 65536 /* no accepted sheet describes more memory */
+
+/* Numbers a call can answer, see t24_number(). */
+#define T24_DONE 0          /* done, or reply built, or sheet valid */
+#define T24_BAD_STATE 1     /* state record of wrong length or not valid */
+#define T24_BAD_MEMORY 2    /* memory length not the sum of the regions */
+#define T24_BAD_COMMAND 3   /* command length not L */
+#define T24_BAD_REPLY 4     /* reply length not L */
+#define T24_IS_DISABLED 5   /* exchange while Disabled */
+#define T24_NOT_DISABLED 6  /* enable when not Disabled */
+#define T24_SHEET_CUT 11    /* sheet ends too early, or exceeds T24_SHEET_MAX */
+#define T24_SHEET_KIND 12   /* unknown record kind */
+#define T24_SHEET_PLACE 13  /* record kind out of place */
+#define T24_SHEET_RANGE 14  /* field out of its range */
+#define T24_SHEET_ORDER 15  /* records out of order, or regions overlap */
+#define T24_SHEET_EXCESS 16 /* too many records, or too much memory */
+#define T24_SHEET_SPAN 17   /* parameter not wholly in regions */
+
+/* Sheet: record kinds, and the rights of a region. */
+#define T24_RECORD_END 0x00
+#define T24_RECORD_LINK 0x01      /* L (1), version (1), profile (1) */
+#define T24_RECORD_REGION 0x02    /* start (4), length (4), rights (1) */
+#define T24_RECORD_PARAMETER 0x03 /* number (2), address (4), size (1) */
+#define T24_RECORD_ID 0x04        /* code (1), length (1), 32 octets */
+#define T24_RIGHT_READ 0x01
+#define T24_RIGHT_WRITE_ASYNC 0x02
+#define T24_RIGHT_WRITE_SYNC 0x04
+
+/* State record: what stands at which octet, and the values of the link. */
+#define T24_AT_KIND 0 /* always T24_STATE_KIND */
+#define T24_AT_LINK 1
+#define T24_AT_L 2
+#define T24_AT_DUAL 3     /* dual transfer, 0 or 1 */
+#define T24_AT_COM_TIME 4 /* nonzero exactly in the two connected links */
+#define T24_AT_MN_KNOWN 5
+#define T24_AT_LAST_MN 6
+#define T24_AT_RSN 7
+#define T24_AT_COMMAND_ALARM 8       /* latched: 0, 8, 9, 10 or 12 */
+#define T24_AT_COMMUNICATION_ALARM 9 /* latched: 0 or 12 */
+#define T24_STATE_KIND 0x11
+#define T24_LINK_DISABLED 0
+#define T24_LINK_DISCONNECTED 1
+#define T24_LINK_ASYNC 2
+#define T24_LINK_SYNC 3
+
+/* Command codes, octet 0 of command and reply. */
+#define T24_NOP 0x00
+#define T24_PRM_RD 0x01
+#define T24_PRM_WR 0x02
+#define T24_ID_RD 0x03
+#define T24_ALM_RD 0x05
+#define T24_ALM_CLR 0x06
+#define T24_SYNC_SET 0x0D
+#define T24_CONNECT 0x0E
+#define T24_DISCONNECT 0x0F
+#define T24_MEM_RD 0x1D
+#define T24_MEM_WR 0x1E
+
+/* CONNECT octet 5, com_mod: dual transfer needs the synchronous bit too. */
+#define T24_COM_SYNC 0x02
+#define T24_COM_DUAL 0x04
+
+/* MEM_RD and MEM_WR octet 5: low half 1, high half the element's width. */
+#define T24_ELEMENT_1 0x11 /* elements of 1 octet */
+#define T24_ELEMENT_2 0x21 /* elements of 2 octets */
+#define T24_ELEMENT_4 0x31 /* elements of 4 octets */
+
+/* Alarms in a reply and in the latches. */
+#define T24_ALARM_NONE 0
+#define T24_ALARM_CODE 8           /* unknown command code */
+#define T24_ALARM_DATA 9           /* a field of the command is wrong */
+#define T24_ALARM_RIGHTS 10        /* the span lacks the right somewhere */
+#define T24_ALARM_LINK 12          /* code not allowed in this link */
+#define T24_ALARM_COMMUNICATION 12 /* watchdog: MN did not follow */
+
+#ifdef __cplusplus
+extern "C" {
+#endif
+
+/*
+ * Verdict on a sheet.  Needs nothing but the sheet, of any length.
+ * Answers T24_DONE for a valid sheet, else 11 to 17 for its first fault, with
+ * the octet of the sheet where the faulty record starts as place.  A sheet
+ * over T24_SHEET_MAX is T24_SHEET_CUT at 0.  At each record the order is
+ * 11 no octet left, 12, 13, 11 body cut, 14, 16, 15, 17; octets behind the
+ * end record are 13 at the first of them.
+ * Afterwards: the sheet is unchanged, and nothing else was lent.
+ */
+uint64_t t24_sheet(const uint8_t *sheet, size_t sheet_len);
+
+/*
+ * What a sheet asks of the host's buffers.  Needs nothing but the sheet.
+ * Answers L and the memory length, see t24_l() and t24_memory(), or 0 for a
+ * sheet that t24_sheet refuses (L is never 0, so 0 means refused).  A valid
+ * sheet without regions has memory length 0.
+ * Afterwards: the sheet is unchanged, and nothing else was lent.
+ */
+uint64_t t24_lengths(const uint8_t *sheet, size_t sheet_len);
+
+/*
+ * Makes a state record.  Needs a valid sheet and T24_STATE_LEN octets of any
+ * content.
+ * Answers, the first that applies: 11 to 17 with place as t24_sheet does;
+ * T24_BAD_STATE if state_len is not T24_STATE_LEN; else T24_DONE.
+ * Afterwards: on T24_DONE the state is Disabled with the sheet's L, zeros
+ * behind it; else it is unchanged.  The sheet is unchanged.
+ */
+uint64_t t24_reset(const uint8_t *sheet, size_t sheet_len,
+                   uint8_t *state, size_t state_len);
+
+/*
+ * Turns Disabled into Disconnected, from where a CONNECT is taken.
+ * Needs a valid sheet and a valid state record of that sheet's L.
+ * Answers, the first that applies: 11 to 17 with place as t24_sheet does;
+ * T24_BAD_STATE if the state has the wrong length or is not valid under this
+ * sheet; T24_NOT_DISABLED if its link is not 0; else T24_DONE.
+ * Afterwards: on T24_DONE the state's link is T24_LINK_DISCONNECTED, its other
+ * octets as before; else it is unchanged.  The sheet is unchanged.
+ */
+uint64_t t24_enable(const uint8_t *sheet, size_t sheet_len,
+                    uint8_t *state, size_t state_len);
+
+/*
+ * One exchange: takes the master's command, builds the reply.
+ * Needs a valid sheet, a valid state record of that sheet's L that is not
+ * Disabled, the memory (the regions one after another in sheet order), and
+ * command and reply of exactly L octets.
+ * Answers, the first that applies: 11 to 17 with place as t24_sheet does;
+ * T24_BAD_STATE (wrong length or not valid under this sheet); T24_BAD_MEMORY;
+ * T24_BAD_COMMAND; T24_BAD_REPLY; T24_IS_DISABLED; else T24_DONE.
+ * T24_DONE says that a reply was built.  The command may still be refused in
+ * it: see t24_reply_alarm() and t24_reply_communication_alarm().
+ * Afterwards: on T24_DONE all L octets of the reply are written, the state is
+ * the valid record for the next exchange, and of the memory the octets that an
+ * accepted PRM_WR or MEM_WR names are written; else state, memory and reply are
+ * unchanged.  Sheet and command are unchanged.
+ */
+uint64_t t24_exchange(const uint8_t *sheet, size_t sheet_len,
+                      uint8_t *state, size_t state_len,
+                      uint8_t *memory, size_t memory_len,
+                      const uint8_t *command, size_t command_len,
+                      uint8_t *reply, size_t reply_len);
+
+#ifdef __cplusplus
+}
+#endif
+
+/* The number in an answer: T24_DONE or why nothing was done. */
+static inline uint32_t t24_number(uint64_t answer)
+{
+    return answer & 0xFFFFFFFFu;
+}
+
+/* The place in an answer: an octet of the sheet for 11 to 17, else 0. */
+static inline uint32_t t24_place(uint64_t answer)
+{
+    const uint64_t place = answer >> 32;
+    return place & 0xFFFFFFFFu;
+}
+
+/* L out of what t24_lengths answered; 0 means that the sheet is refused. */
+static inline size_t t24_l(uint64_t lengths)
+{
+    return t24_number(lengths);
+}
+
+/* The memory length out of what t24_lengths answered. */
+static inline size_t t24_memory(uint64_t lengths)
+{
+    return t24_place(lengths);
+}
+
+/* The alarm of this command in a built reply: T24_ALARM_NONE if accepted. */
+static inline uint32_t t24_reply_alarm(const uint8_t *reply)
+{
+    return reply[3] & 0x0Fu;
+}
+
+/* The latched communication alarm in a built reply. */
+static inline uint32_t t24_reply_communication_alarm(const uint8_t *reply)
+{
+    return (reply[3] >> 4) & 0x0Fu;
+}
+
+/* A call's number in words. */
+static inline const char *t24_words(uint32_t number)
+{
+    switch (number) {
+    case T24_DONE: return "done";
+    case T24_BAD_STATE: return "state record of wrong length or not valid";
+    case T24_BAD_MEMORY: return "memory length is not the sum of the regions";
+    case T24_BAD_COMMAND: return "command length is not L";
+    case T24_BAD_REPLY: return "reply length is not L";
+    case T24_IS_DISABLED: return "exchange while Disabled";
+    case T24_NOT_DISABLED: return "enable when not Disabled";
+    case T24_SHEET_CUT: return "sheet: ends too early or is too long";
+    case T24_SHEET_KIND: return "sheet: unknown record kind";
+    case T24_SHEET_PLACE: return "sheet: record kind out of place";
+    case T24_SHEET_RANGE: return "sheet: field out of range";
+    case T24_SHEET_ORDER: return "sheet: records out of order or overlapping";
+    case T24_SHEET_EXCESS: return "sheet: too many records or too much memory";
+    case T24_SHEET_SPAN: return "sheet: parameter not wholly in regions";
+    default: return "not a number of this library";
+    }
+}
+
+/* A command alarm in words. */
+static inline const char *t24_alarm_words(uint32_t alarm)
+{
+    switch (alarm) {
+    case T24_ALARM_NONE: return "accepted";
+    case T24_ALARM_CODE: return "unknown command code";
+    case T24_ALARM_DATA: return "a field of the command is wrong";
+    case T24_ALARM_RIGHTS: return "no right to part of the span";
+    case T24_ALARM_LINK: return "command not allowed in this link";
+    default: return "not an alarm of this library";
+    }
+}
+
+#endif

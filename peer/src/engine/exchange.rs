@@ -1,0 +1,114 @@
+//! One exchange: decided as a whole first, stored afterwards.
+
+use super::command::{judge, Act, CommunicationMode, Transfer};
+use super::sheet::Sheet;
+use super::state::{Link, State};
+
+/// The longest L.
+const LONGEST: usize = 64;
+/// Status bit 0: a latch is nonzero.
+const LATCHED: u8 = 1;
+/// Status bit 2: ready for a new command.
+const READY: u8 = 4;
+
+/// What an exchange leaves behind, once it is stored.
+pub struct Outcome {
+    pub state: State,
+    /// The first L octets are the reply.
+    pub reply: [u8; LONGEST],
+    pub write: Option<Transfer>,
+}
+
+impl Outcome {
+    /// Stores the state and an accepted write.
+    pub fn store(&self, state: &mut [u8], memory: &mut [u8], command: &[u8]) {
+        self.state.write(state);
+        if let Some(write) = &self.write {
+            memory[write.place..write.place + write.length]
+                .copy_from_slice(&command[write.data..write.data + write.length]);
+        }
+    }
+}
+
+/// Decides the exchange of a command of L octets in a link that is not Disabled.
+pub fn decide(sheet: &Sheet, before: State, memory: &[u8], command: &[u8]) -> Outcome {
+    let mn = command[1] & 15;
+    let mut outcome = Outcome {
+        state: before,
+        reply: [0; LONGEST],
+        write: None,
+    };
+    let mut alarm = 0;
+    if before.misses(mn) {
+        outcome.state = before.cycle_lost();
+    } else {
+        match judge(sheet, &before, command) {
+            Ok(act) => perform(act, &mut outcome, memory, command),
+            Err(refused) => {
+                alarm = refused;
+                outcome.state = before.with_alarm(refused);
+            }
+        }
+    }
+    if before.link == Link::SyncConnected && outcome.state.link == Link::SyncConnected {
+        outcome.state = outcome.state.counted(mn);
+    }
+    write_head(&mut outcome, command, alarm);
+    outcome
+}
+
+/// Fills the body and turns the state of an accepted command.
+fn perform(act: Act, outcome: &mut Outcome, memory: &[u8], command: &[u8]) {
+    let before = outcome.state;
+    let reply = &mut outcome.reply;
+    match act {
+        Act::Nothing => (),
+        Act::Read(transfer) => {
+            reply[transfer.echo.clone()].copy_from_slice(&command[transfer.echo]);
+            reply[transfer.data..transfer.data + transfer.length]
+                .copy_from_slice(&memory[transfer.place..transfer.place + transfer.length]);
+        }
+        Act::Write(transfer) => {
+            let data = transfer.data..transfer.data + transfer.length;
+            reply[transfer.echo.clone()].copy_from_slice(&command[transfer.echo.clone()]);
+            reply[data.clone()].copy_from_slice(&command[data]);
+            outcome.write = Some(transfer);
+        }
+        Act::Identify(octets) => {
+            reply[4..8].copy_from_slice(&command[4..8]);
+            reply[8..8 + octets.len()].copy_from_slice(octets);
+        }
+        Act::ShowLatches => {
+            reply[8] = before.command_latch;
+            reply[9] = before.communication_latch;
+        }
+        Act::ClearLatches => outcome.state = before.cleared(),
+        Act::Synchronize => outcome.state = before.sync_connected(before.com_time, false),
+        Act::Connect => {
+            reply[4..8].copy_from_slice(&command[4..8]);
+            outcome.state = connect(before, command[5], command[6]);
+        }
+        Act::Disconnect => outcome.state = before.disconnected(),
+    }
+}
+
+/// The link that an accepted CONNECT asked for.
+fn connect(before: State, com_mod: u8, com_time: u8) -> State {
+    match CommunicationMode::of(com_mod) {
+        Some(mode) if mode.synchronous => before.sync_connected(com_time, mode.dual),
+        _ => before.async_connected(com_time),
+    }
+}
+
+/// Code, RWDT and status.
+fn write_head(outcome: &mut Outcome, command: &[u8], alarm: u8) {
+    let state = &outcome.state;
+    let reply = &mut outcome.reply;
+    reply[0] = command[0];
+    if state.link == Link::SyncConnected {
+        let rsn = state.counters.map_or(0, |counters| counters.rsn);
+        reply[1] = rsn << 4 | command[1] & 15;
+    }
+    reply[2] = READY | if state.latched() { LATCHED } else { 0 };
+    reply[3] = state.communication_latch << 4 | alarm;
+}

@@ -1,0 +1,266 @@
+//! The device sheet: its reader with every fault, and its records.
+
+use super::answer::{self, refuse_at, Answer};
+use super::octets::{number_16, number_32};
+use super::region::{find_span, Region, RIGHTS};
+
+const SHEET_LIMIT: usize = 2048;
+const MEMORY_LIMIT: u64 = 65_536;
+const REGION_LIMIT: usize = 32;
+const PARAMETER_LIMIT: usize = 64;
+const ITEM_LIMIT: usize = 32;
+const PARAMETER_SIZE_LIMIT: u8 = 56;
+const ITEM_LENGTH_LIMIT: u8 = 32;
+const ADDRESSES: u64 = 1 << 32;
+
+const LINK_RECORD: usize = 4;
+const REGION_RECORD: usize = 10;
+const PARAMETER_RECORD: usize = 8;
+const ITEM_RECORD: usize = 35;
+
+/// The kinds in the order in which a sheet has them, the end apart.
+#[derive(Clone, Copy, PartialEq, Eq, PartialOrd, Ord)]
+enum Kind {
+    Link,
+    Region,
+    Parameter,
+    Item,
+    End,
+}
+
+impl Kind {
+    fn of(octet: u8) -> Option<Kind> {
+        match octet {
+            0 => Some(Kind::End),
+            1 => Some(Kind::Link),
+            2 => Some(Kind::Region),
+            3 => Some(Kind::Parameter),
+            4 => Some(Kind::Item),
+            _ => None,
+        }
+    }
+
+    fn record_length(self) -> usize {
+        match self {
+            Kind::Link => LINK_RECORD,
+            Kind::Region => REGION_RECORD,
+            Kind::Parameter => PARAMETER_RECORD,
+            Kind::Item => ITEM_RECORD,
+            Kind::End => 1,
+        }
+    }
+
+    /// The link record comes first and once; the others never step back.
+    fn in_place(self, last: Option<Kind>) -> bool {
+        match last {
+            None => self == Kind::Link,
+            Some(last) => self != Kind::Link && self >= last,
+        }
+    }
+}
+
+/// A parameter record.
+#[derive(Clone, Copy, Debug, PartialEq, Eq)]
+pub struct Parameter {
+    pub number: u16,
+    pub address: u32,
+    pub size: u8,
+}
+
+/// A sheet that has been read: the octets and how many records of each kind.
+///
+/// Records have fixed lengths and a fixed order, so their places follow from
+/// the counts and nothing is copied.
+pub struct Sheet<'a> {
+    octets: &'a [u8],
+    regions: usize,
+    parameters: usize,
+    items: usize,
+    memory: u64,
+}
+
+impl<'a> Sheet<'a> {
+    /// Reads record by record from the front and tells the first fault.
+    pub fn read(octets: &'a [u8]) -> Result<Sheet<'a>, Answer> {
+        if octets.len() > SHEET_LIMIT {
+            return Err(refuse_at(answer::CUT, 0));
+        }
+        let mut sheet = Sheet {
+            octets,
+            regions: 0,
+            parameters: 0,
+            items: 0,
+            memory: 0,
+        };
+        let mut place = 0;
+        let mut last = None;
+        while last != Some(Kind::End) {
+            let kind = sheet
+                .read_record(place, last)
+                .map_err(|number| refuse_at(number, place))?;
+            place += kind.record_length();
+            last = Some(kind);
+        }
+        if place < octets.len() {
+            return Err(refuse_at(answer::OUT_OF_PLACE, place));
+        }
+        Ok(sheet)
+    }
+
+    fn read_record(&mut self, place: usize, last: Option<Kind>) -> Result<Kind, u32> {
+        let octet = *self.octets.get(place).ok_or(answer::CUT)?;
+        let kind = Kind::of(octet).ok_or(answer::UNKNOWN_KIND)?;
+        if !kind.in_place(last) {
+            return Err(answer::OUT_OF_PLACE);
+        }
+        let record = self
+            .octets
+            .get(place..place + kind.record_length())
+            .ok_or(answer::CUT)?;
+        match kind {
+            Kind::Link => check_link(record)?,
+            Kind::Region => self.take_region(region_of(record))?,
+            Kind::Parameter => self.take_parameter(parameter_of(record))?,
+            Kind::Item => self.take_item(record)?,
+            Kind::End => (),
+        }
+        Ok(kind)
+    }
+
+    fn take_region(&mut self, region: Region) -> Result<(), u32> {
+        if region.length < 1 || region.end() > ADDRESSES || region.rights & !RIGHTS != 0 {
+            return Err(answer::RANGE);
+        }
+        if self.regions == REGION_LIMIT || self.memory + region.length > MEMORY_LIMIT {
+            return Err(answer::TOO_MUCH);
+        }
+        let before = self.regions().next_back();
+        if before.map_or(false, |before| region.start < before.end()) {
+            return Err(answer::ORDER);
+        }
+        self.regions += 1;
+        self.memory += region.length;
+        Ok(())
+    }
+
+    fn take_parameter(&mut self, parameter: Parameter) -> Result<(), u32> {
+        if !(1..=PARAMETER_SIZE_LIMIT).contains(&parameter.size) {
+            return Err(answer::RANGE);
+        }
+        if self.parameters == PARAMETER_LIMIT {
+            return Err(answer::TOO_MUCH);
+        }
+        let before = self.parameters().next_back();
+        if before.map_or(false, |before| parameter.number <= before.number) {
+            return Err(answer::ORDER);
+        }
+        find_span(self, parameter.address, usize::from(parameter.size)).ok_or(answer::SPAN)?;
+        self.parameters += 1;
+        Ok(())
+    }
+
+    fn take_item(&mut self, record: &[u8]) -> Result<(), u32> {
+        let length = record[2];
+        if !(1..=ITEM_LENGTH_LIMIT).contains(&length) {
+            return Err(answer::RANGE);
+        }
+        if record[3 + usize::from(length)..]
+            .iter()
+            .any(|&octet| octet != 0)
+        {
+            return Err(answer::RANGE);
+        }
+        if self.items == ITEM_LIMIT {
+            return Err(answer::TOO_MUCH);
+        }
+        let before = self.items().next_back();
+        if before.map_or(false, |(code, _)| record[1] <= code) {
+            return Err(answer::ORDER);
+        }
+        self.items += 1;
+        Ok(())
+    }
+
+    /// L, the length of command and reply.
+    pub fn pdu_length(&self) -> u8 {
+        self.octets[1]
+    }
+
+    /// The version a CONNECT has to name.
+    pub fn version(&self) -> u8 {
+        self.octets[2]
+    }
+
+    /// The profile a CONNECT has to name.
+    pub fn profile(&self) -> u8 {
+        self.octets[3]
+    }
+
+    /// The sum of the regions' lengths.
+    pub fn memory_length(&self) -> usize {
+        self.memory as usize
+    }
+
+    /// The regions in sheet order.
+    pub fn regions(&self) -> impl DoubleEndedIterator<Item = Region> + 'a {
+        let octets = self.octets;
+        let end = LINK_RECORD + self.regions * REGION_RECORD;
+        octets[LINK_RECORD..end]
+            .chunks_exact(REGION_RECORD)
+            .map(region_of)
+    }
+
+    /// The parameters in sheet order.
+    pub fn parameters(&self) -> impl DoubleEndedIterator<Item = Parameter> + 'a {
+        let start = LINK_RECORD + self.regions * REGION_RECORD;
+        let octets = self.octets;
+        octets[start..start + self.parameters * PARAMETER_RECORD]
+            .chunks_exact(PARAMETER_RECORD)
+            .map(parameter_of)
+    }
+
+    /// The ID items in sheet order, as code and octets without the zeros behind.
+    pub fn items(&self) -> impl DoubleEndedIterator<Item = (u8, &'a [u8])> {
+        let start = LINK_RECORD + self.regions * REGION_RECORD + self.parameters * PARAMETER_RECORD;
+        let octets = self.octets;
+        octets[start..start + self.items * ITEM_RECORD]
+            .chunks_exact(ITEM_RECORD)
+            .map(|record| (record[1], &record[3..3 + usize::from(record[2])]))
+    }
+
+    /// The parameter of that number.
+    pub fn find_parameter(&self, number: u16) -> Option<Parameter> {
+        self.parameters()
+            .find(|parameter| parameter.number == number)
+    }
+
+    /// The octets of the ID item of that code.
+    pub fn find_item(&self, code: u8) -> Option<&'a [u8]> {
+        self.items()
+            .find(|&(other, _)| other == code)
+            .map(|(_, octets)| octets)
+    }
+}
+
+fn check_link(record: &[u8]) -> Result<(), u32> {
+    match record[1] {
+        8 | 16 | 32 | 48 | 64 => Ok(()),
+        _ => Err(answer::RANGE),
+    }
+}
+
+fn region_of(record: &[u8]) -> Region {
+    Region {
+        start: u64::from(number_32(record, 1)),
+        length: u64::from(number_32(record, 5)),
+        rights: record[9],
+    }
+}
+
+fn parameter_of(record: &[u8]) -> Parameter {
+    Parameter {
+        number: number_16(record, 1),
+        address: number_32(record, 3),
+        size: record[7],
+    }
+}

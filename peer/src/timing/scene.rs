@@ -1,0 +1,104 @@
+//! What is timed: reading a sheet, or one exchange from a fixed state.
+
+use crate::engine::memory_mode;
+use crate::trial::build;
+use crate::trial::plan::Plan;
+use crate::trial::samples::{largest, typical, Spans};
+use crate::trial::states::{counting_state, plain_state, SYNC};
+
+/// The L of all timed exchanges.
+pub const PDU_LENGTH: u8 = 64;
+
+/// One input for both engines.
+#[derive(Clone, Debug)]
+pub struct Scene {
+    pub name: String,
+    pub sheet: Vec<u8>,
+    pub memory: Vec<u8>,
+    /// State and command of an exchange; nothing if only the sheet is read.
+    pub exchange: Option<(Vec<u8>, Vec<u8>)>,
+}
+
+/// A sheet with its name.
+pub struct NamedPlan {
+    pub name: &'static str,
+    pub plan: Plan,
+}
+
+/// The sheets that are timed, from the smallest to the largest.
+pub fn plans() -> Vec<NamedPlan> {
+    let named = |name, plan| NamedPlan { name, plan };
+    vec![
+        named("smallest sheet", Plan::bare(PDU_LENGTH)),
+        named("typical sheet", typical(PDU_LENGTH)),
+        named(
+            "largest sheet, spans first",
+            largest(PDU_LENGTH, Spans::First),
+        ),
+        named(
+            "largest sheet, spans last",
+            largest(PDU_LENGTH, Spans::Last),
+        ),
+        named(
+            "largest sheet, spans crossing",
+            largest(PDU_LENGTH, Spans::Crossing),
+        ),
+    ]
+}
+
+/// Reading a sheet.
+pub fn reading(named: &NamedPlan) -> Scene {
+    let sheet = named.plan.octets();
+    Scene {
+        name: format!("read {} ({} octets)", named.name, sheet.len()),
+        sheet,
+        memory: Vec::new(),
+        exchange: None,
+    }
+}
+
+/// One exchange from link 2, or from link 3 with the MN that follows.
+pub fn exchanging(named: &NamedPlan, link: u8, what: &str, command: Vec<u8>) -> Scene {
+    let state = if link == SYNC {
+        counting_state(PDU_LENGTH, 7, 7)
+    } else {
+        plain_state(PDU_LENGTH, link)
+    };
+    let mut command = command;
+    build::follow(&mut command, &state);
+    Scene {
+        name: format!("{what}, link {link}, {}", named.name),
+        sheet: named.plan.octets(),
+        memory: build::distinct_octets(named.plan.memory_length()),
+        exchange: Some((state, command)),
+    }
+}
+
+/// A memory command over `length` octets from `address` on.
+pub fn memory_command(plan: &Plan, code: u8, length: u16, address: u64) -> Vec<u8> {
+    build::memory(plan, code, memory_mode::octet(1), length, address)
+}
+
+/// The exchanges of the table for one sheet and link, spans at the memory's end.
+pub fn usual_exchanges(named: &NamedPlan, link: u8) -> Vec<Scene> {
+    let plan = &named.plan;
+    let end = plan.regions.last().map_or(0, |region| region.end());
+    let mut scenes = vec![exchanging(named, link, "NOP", build::command(plan, 0x00))];
+    for (code, name) in [(0x1D, "MEM_RD"), (0x1E, "MEM_WR")] {
+        for length in [4, 52] {
+            let command = memory_command(plan, code, length, end - u64::from(length));
+            scenes.push(exchanging(
+                named,
+                link,
+                &format!("{name} of {length}"),
+                command,
+            ));
+        }
+    }
+    if let Some(parameter) = plan.parameters.last() {
+        let command = build::parameter(plan, 0x01, parameter.number, parameter.size);
+        let what = format!("PRM_RD of {}", parameter.size);
+        scenes.push(exchanging(named, link, &what, command));
+    }
+    scenes
+}

@@ -1,0 +1,131 @@
+//! The median time of a call, over many batches of both engines in turn.
+
+use super::scene::Scene;
+use crate::trial::engines::Engine;
+use std::time::Instant;
+
+/// The shortest batch that is timed, in nanoseconds.
+const BATCH: u128 = 100_000;
+
+/// Nanoseconds of one call, for both engines.
+pub type Times = [f64; 2];
+
+/// One engine at work on a scene, with its own buffers.
+struct Running<'a> {
+    engine: &'a Engine,
+    scene: &'a Scene,
+    state: Vec<u8>,
+    memory: Vec<u8>,
+    reply: Vec<u8>,
+}
+
+impl<'a> Running<'a> {
+    fn new(engine: &'a Engine, scene: &'a Scene) -> Running<'a> {
+        Running {
+            engine,
+            scene,
+            state: vec![0; 10],
+            memory: scene.memory.clone(),
+            reply: vec![0; 64],
+        }
+    }
+
+    /// One call; an exchange starts from the scene's state each time.
+    #[inline(never)]
+    fn call(&mut self) -> u64 {
+        match &self.scene.exchange {
+            None => (self.engine.sheet)(&self.scene.sheet),
+            Some((state, command)) => {
+                self.state.copy_from_slice(state);
+                (self.engine.exchange)(
+                    &self.scene.sheet,
+                    &mut self.state,
+                    &mut self.memory,
+                    command,
+                    &mut self.reply,
+                )
+            }
+        }
+    }
+
+    /// Nanoseconds of so many calls.
+    fn batch(&mut self, calls: u64) -> u128 {
+        let start = Instant::now();
+        let answers = (0..calls).fold(0, |all, _| all | self.call());
+        let elapsed = start.elapsed().as_nanos();
+        assert!(
+            answers == 0,
+            "a timed call was refused: {}",
+            self.scene.name
+        );
+        elapsed
+    }
+
+    fn calls_of_a_batch(&mut self) -> u64 {
+        let mut calls = 1;
+        while self.batch(calls) < BATCH {
+            calls *= 2;
+        }
+        calls
+    }
+}
+
+/// Median nanoseconds per call of both engines, measured in turn.
+pub fn measure(engines: &[Engine; 2], scene: &Scene, batches: usize) -> Times {
+    let mut running: Vec<Running> = engines
+        .iter()
+        .map(|engine| Running::new(engine, scene))
+        .collect();
+    let calls: Vec<u64> = running.iter_mut().map(Running::calls_of_a_batch).collect();
+    let mut times = [Vec::new(), Vec::new()];
+    for _ in 0..batches {
+        for side in 0..2 {
+            let elapsed = running[side].batch(calls[side]);
+            times[side].push(elapsed as f64 / calls[side] as f64);
+        }
+    }
+    let [ours, theirs] = times;
+    [median(ours), median(theirs)]
+}
+
+/// Whether both engines leave the same reply, state and memory.
+pub fn agree(engines: &[Engine; 2], scene: &Scene) -> bool {
+    let outcome = |engine| {
+        let mut running = Running::new(engine, scene);
+        let answer = running.call();
+        (answer, running.state, running.memory, running.reply)
+    };
+    outcome(&engines[0]) == outcome(&engines[1])
+}
+
+fn median(mut times: Vec<f64>) -> f64 {
+    times.sort_by(f64::total_cmp);
+    times[times.len() / 2]
+}
+
+#[cfg(test)]
+mod tests {
+    use super::*;
+    use crate::timing::scene::{plans, reading, usual_exchanges};
+    use crate::trial::engines::PEER;
+
+    #[test]
+    fn the_middle_time_is_taken() {
+        assert_eq!(median(vec![9.0, 1.0, 5.0]), 5.0);
+    }
+
+    #[test]
+    fn every_scene_is_accepted_and_can_be_timed() {
+        for named in plans().iter().skip(1) {
+            let mut scenes = vec![reading(named)];
+            scenes.extend([2, 3].iter().flat_map(|&link| usual_exchanges(named, link)));
+            for scene in scenes {
+                let mut running = Running::new(&PEER, &scene);
+                assert_eq!(running.call(), 0);
+                assert_eq!(running.reply[3] & 15, 0, "{}", scene.name);
+                assert!(agree(&[PEER, PEER], &scene));
+                assert!(measure(&[PEER, PEER], &scene, 1)[0] > 0.0);
+            }
+        }
+    }
+}

@@ -1,0 +1,66 @@
+//! Commands and memories for directed trials.
+
+use super::plan::Plan;
+use super::states::{KNOWN_AT, LAST_MN_AT, LINK_AT, SYNC};
+
+/// A command of this code whose unnamed octets all hold something.
+pub fn command(plan: &Plan, code: u8) -> Vec<u8> {
+    let length = usize::from(plan.pdu_length);
+    let mut command: Vec<u8> = (0..length)
+        .map(|at| 0xA1 ^ (at as u8).wrapping_mul(7))
+        .collect();
+    command[0] = code;
+    command
+}
+
+pub fn connect(plan: &Plan, com_mod: u8, com_time: u8) -> Vec<u8> {
+    let mut command = command(plan, 0x0E);
+    command[4..8].copy_from_slice(&[plan.version, com_mod, com_time, plan.profile]);
+    command
+}
+
+pub fn parameter(plan: &Plan, code: u8, number: u16, size: u8) -> Vec<u8> {
+    let mut command = command(plan, code);
+    command[4..6].copy_from_slice(&number.to_le_bytes());
+    command[6] = size;
+    command
+}
+
+pub fn identity(plan: &Plan, id_code: u8, offset: u8, size: u16) -> Vec<u8> {
+    let mut command = command(plan, 0x03);
+    command[4] = id_code;
+    command[5] = offset;
+    command[6..8].copy_from_slice(&size.to_le_bytes());
+    command
+}
+
+pub fn alarm_mode(plan: &Plan, code: u8, mode: u16) -> Vec<u8> {
+    let mut command = command(plan, code);
+    command[4..6].copy_from_slice(&mode.to_le_bytes());
+    command
+}
+
+/// At L 8 the address has no room and is left out.
+pub fn memory(plan: &Plan, code: u8, mode: u8, count: u16, address: u64) -> Vec<u8> {
+    let mut command = command(plan, code);
+    command[5] = mode;
+    command[6..8].copy_from_slice(&count.to_le_bytes());
+    if command.len() >= 12 {
+        command[8..12].copy_from_slice(&(address as u32).to_le_bytes());
+    }
+    command
+}
+
+/// Sets the MN that follows, where the state asks for one.
+pub fn follow(command: &mut [u8], state: &[u8]) {
+    if state[LINK_AT] == SYNC && state[KNOWN_AT] == 1 {
+        command[1] = command[1] & 0xF0 | (state[LAST_MN_AT] + 1) & 15;
+    }
+}
+
+/// Octets that tell their places apart, also at distances of 256.
+pub fn distinct_octets(length: usize) -> Vec<u8> {
+    (0..length)
+        .map(|at| ((at as u32).wrapping_mul(0x9E37_79B1) >> 23) as u8)
+        .collect()
+}

@@ -1,0 +1,188 @@
+//! Random commands that are accepted often and fail just beside the rules.
+
+use super::plan::Plan;
+use super::random::Random;
+use super::states::{ASYNC, DISCONNECTED, KNOWN_AT, LAST_MN_AT, LINK_AT, RSN_AT, SYNC};
+use crate::engine::memory_mode;
+
+/// The codes that are built.
+pub const CODES: [u8; 11] = [
+    0x00, 0x01, 0x02, 0x03, 0x05, 0x06, 0x0D, 0x0E, 0x0F, 0x1D, 0x1E,
+];
+
+/// A command for this sheet in this state; unnamed octets hold anything.
+pub fn random_command(random: &mut Random, plan: &Plan, state: &[u8]) -> Vec<u8> {
+    let length = usize::from(plan.pdu_length);
+    let mut command = vec![0; length];
+    if random.chance(75) {
+        random.fill(&mut command);
+    }
+    command[0] = code(random, state[LINK_AT]);
+    command[1] = watchdog(random, state);
+    if !random.chance(3) {
+        fill_body(random, plan, &mut command);
+    }
+    command
+}
+
+fn code(random: &mut Random, link: u8) -> u8 {
+    let draw = random.below(100);
+    match link {
+        _ if draw < 3 => random.octet(),
+        _ if draw < 8 => random.pick(&CODES),
+        DISCONNECTED if draw < 70 => 0x0E,
+        DISCONNECTED => random.pick(&[0x00, 0x0F, 0x01, 0x0D, 0x1E]),
+        ASYNC if draw < 12 => 0x0D,
+        ASYNC | SYNC if draw < 14 => 0x0F,
+        _ => random.pick(&[
+            0x00, 0x01, 0x01, 0x02, 0x02, 0x03, 0x03, 0x05, 0x06, 0x1D, 0x1D, 0x1E, 0x1E,
+        ]),
+    }
+}
+
+/// Mostly the next MN, and any SN or the one that echoes RSN.
+fn watchdog(random: &mut Random, state: &[u8]) -> u8 {
+    let follows = state[LINK_AT] == SYNC && state[KNOWN_AT] == 1;
+    let next = state[LAST_MN_AT].wrapping_add(1) & 15;
+    let mn = match random.below(100) {
+        0..=1 if follows => state[LAST_MN_AT],
+        2 if follows => next.wrapping_add(1) & 15,
+        3..=95 if follows => next,
+        _ => random.octet() & 15,
+    };
+    let sn = if random.chance(50) {
+        state[RSN_AT]
+    } else {
+        random.octet()
+    };
+    sn << 4 | mn
+}
+
+fn fill_body(random: &mut Random, plan: &Plan, command: &mut [u8]) {
+    match command[0] {
+        0x01 | 0x02 => fill_parameter(random, plan, command),
+        0x03 => fill_identity(random, plan, command),
+        0x05 | 0x06 => fill_alarm_mode(random, command),
+        0x0E => fill_connect(random, plan, command),
+        0x1D | 0x1E => fill_memory(random, plan, command),
+        _ => (),
+    }
+}
+
+/// The value itself in most cases, else one beside it, or any.
+fn near(random: &mut Random, value: u64) -> u64 {
+    match random.below(100) {
+        0..=89 => value,
+        90..=92 => value.wrapping_add(1),
+        93..=95 => value.wrapping_sub(1),
+        96 => value ^ 0x100,
+        97 => value ^ 0x80,
+        _ => random.number(),
+    }
+}
+
+fn put_16(command: &mut [u8], at: usize, value: u64) {
+    command[at..at + 2].copy_from_slice(&(value as u16).to_le_bytes());
+}
+
+fn fill_parameter(random: &mut Random, plan: &Plan, command: &mut [u8]) {
+    if plan.parameters.is_empty() {
+        return;
+    }
+    let parameter = random.pick(&plan.parameters);
+    let number = near(random, u64::from(parameter.number));
+    put_16(command, 4, number);
+    command[6] = near(random, u64::from(parameter.size)) as u8;
+}
+
+fn fill_identity(random: &mut Random, plan: &Plan, command: &mut [u8]) {
+    if plan.items.is_empty() {
+        return;
+    }
+    let item = &plan.items[random.index(plan.items.len())];
+    let length = item.octets.len() as u64;
+    let carried = command.len() as u64 - 8;
+    let offset = if random.chance(50) {
+        0
+    } else {
+        random.below(length + 1)
+    };
+    let rest = length - offset;
+    let size = match random.below(5) {
+        0 => rest,
+        1 => carried,
+        2 => rest.min(carried),
+        _ => 1 + random.below(rest.min(carried).max(1)),
+    };
+    command[4] = near(random, u64::from(item.code)) as u8;
+    command[5] = near(random, offset) as u8;
+    put_16(command, 6, near(random, size));
+}
+
+fn fill_alarm_mode(random: &mut Random, command: &mut [u8]) {
+    let mode = if random.chance(80) {
+        0
+    } else {
+        random.pick(&[1, 0x100, 0x8000, 0xFFFF])
+    };
+    put_16(command, 4, mode);
+}
+
+fn fill_connect(random: &mut Random, plan: &Plan, command: &mut [u8]) {
+    command[4] = near(random, u64::from(plan.version)) as u8;
+    command[5] = match random.below(10) {
+        0 => random.octet(),
+        1 => random.pick(&[0, 2, 6]) ^ 1 << random.below(8),
+        _ => random.pick(&[0x00, 0x02, 0x02, 0x06, 0x06]),
+    };
+    command[6] = random.pick(&[0, 1, 1, 2, 2, 3, 255]);
+    command[7] = near(random, u64::from(plan.profile)) as u8;
+}
+
+fn fill_memory(random: &mut Random, plan: &Plan, command: &mut [u8]) {
+    let element_code = 1 + random.below(3) as u8;
+    let element = 1 << (element_code - 1);
+    let room = (command.len() as u64).saturating_sub(12);
+    let count = match random.below(20) {
+        0 => room / element,
+        1 => room / element + 1,
+        2 => 0,
+        3 => random.pick(&[0x4000, 0x4001, 0x8000, 0x8001, 0x8002, 0xFFFF, 0x0101]),
+        4..=9 => 1 + random.below(3),
+        _ => 1 + random.below((room / element).max(1)),
+    };
+    command[5] = match random.below(18) {
+        0 => random.octet(),
+        1 => memory_mode::octet(element_code).rotate_left(4),
+        2 => memory_mode::octet(random.pick(&[0, 4, 5, 15])),
+        _ => memory_mode::octet(element_code),
+    };
+    put_16(command, 6, count);
+    if command.len() >= 12 {
+        let address = address(random, plan, count * element);
+        command[8..12].copy_from_slice(&(address as u32).to_le_bytes());
+    }
+}
+
+/// An address in a run of regions, at one of its edges, or at the address space's.
+fn address(random: &mut Random, plan: &Plan, length: u64) -> u64 {
+    let draw = random.below(100);
+    if draw < 3 {
+        return random.number();
+    }
+    if draw < 6 || plan.regions.is_empty() {
+        return random.below(3).wrapping_sub(random.below(length + 2));
+    }
+    let region = random.pick(&plan.regions);
+    let (run, run_length) = random.pick(&plan.runs());
+    let inside = run + random.below(run_length.saturating_sub(length) + 1);
+    match random.below(8) {
+        0 => region.start.wrapping_sub(random.below(length + 2)),
+        1 => region.end().wrapping_sub(random.below(length + 2)),
+        2 => (run + run_length)
+            .wrapping_sub(length)
+            .wrapping_add(random.below(2)),
+        3 => region.start + random.below(region.length),
+        _ => inside,
+    }
+}

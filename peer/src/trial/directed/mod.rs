@@ -1,0 +1,26 @@
+//! Trials that reach every rule on purpose, the same on every run.
+
+mod buffers;
+mod data;
+mod limits;
+mod links;
+mod sheets;
+mod states;
+mod traces;
+
+use super::probe::Outcome;
+use super::rig::Rig;
+
+/// All directed trials; those of traces only if the other engine replays.
+pub fn run(rig: &mut Rig) -> Outcome {
+    buffers::run(rig)?;
+    states::run(rig)?;
+    links::run(rig)?;
+    data::run(rig)?;
+    limits::run(rig)?;
+    sheets::run(rig)?;
+    if rig.replays() {
+        traces::run(rig)?;
+    }
+    Ok(())
+}

@@ -1,0 +1,29 @@
+//! An engine as its callable functions, so that two can be run alike.
+
+use crate::engine;
+
+/// Sheet, state, memory, command and reply to an answer.
+pub type Exchange = fn(&[u8], &mut [u8], &mut [u8], &[u8], &mut [u8]) -> u64;
+/// Sheet, state, memory and trace to an answer.
+pub type Replay = fn(&[u8], &mut [u8], &mut [u8], &[u8]) -> u64;
+
+/// The functions of an engine; `replay` may not exist yet.
+#[derive(Clone, Copy)]
+pub struct Engine {
+    pub sheet: fn(&[u8]) -> u64,
+    pub lengths: fn(&[u8]) -> u64,
+    pub reset: fn(&[u8], &mut [u8]) -> u64,
+    pub enable: fn(&[u8], &mut [u8]) -> u64,
+    pub exchange: Exchange,
+    pub replay: Option<Replay>,
+}
+
+/// The engine of this crate.
+pub const PEER: Engine = Engine {
+    sheet: engine::sheet,
+    lengths: engine::lengths,
+    reset: engine::reset,
+    enable: engine::enable,
+    exchange: engine::exchange,
+    replay: Some(engine::replay),
+};

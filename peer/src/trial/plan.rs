@@ -1,0 +1,134 @@
+//! A sheet as a plan of records, from which octets are written.
+
+use crate::engine::region::Region;
+use crate::engine::sheet::{Parameter, Sheet};
+
+/// The lengths a PDU may have.
+pub const LENGTHS: [u8; 5] = [8, 16, 32, 48, 64];
+
+/// An ID item without the zeros behind it.
+#[derive(Clone, Debug, PartialEq, Eq)]
+pub struct Item {
+    pub code: u8,
+    pub octets: Vec<u8>,
+}
+
+/// The records of a sheet, good or bad.
+#[derive(Clone, Debug, PartialEq, Eq)]
+pub struct Plan {
+    pub pdu_length: u8,
+    pub version: u8,
+    pub profile: u8,
+    pub regions: Vec<Region>,
+    pub parameters: Vec<Parameter>,
+    pub items: Vec<Item>,
+}
+
+impl Plan {
+    /// A plan of a link record only.
+    pub fn bare(pdu_length: u8) -> Plan {
+        Plan {
+            pdu_length,
+            version: 0x30,
+            profile: 0x05,
+            regions: Vec::new(),
+            parameters: Vec::new(),
+            items: Vec::new(),
+        }
+    }
+
+    /// The plan of a good sheet.
+    pub fn read(octets: &[u8]) -> Option<Plan> {
+        let sheet = Sheet::read(octets).ok()?;
+        Some(Plan {
+            pdu_length: sheet.pdu_length(),
+            version: sheet.version(),
+            profile: sheet.profile(),
+            regions: sheet.regions().collect(),
+            parameters: sheet.parameters().collect(),
+            items: sheet
+                .items()
+                .map(|(code, octets)| Item {
+                    code,
+                    octets: octets.to_vec(),
+                })
+                .collect(),
+        })
+    }
+
+    /// The records one by one, the end included.
+    pub fn records(&self) -> Vec<Vec<u8>> {
+        let mut records = vec![vec![1, self.pdu_length, self.version, self.profile]];
+        records.extend(self.regions.iter().map(region_record));
+        records.extend(self.parameters.iter().map(parameter_record));
+        records.extend(self.items.iter().map(item_record));
+        records.push(vec![0]);
+        records
+    }
+
+    pub fn octets(&self) -> Vec<u8> {
+        self.records().concat()
+    }
+
+    pub fn memory_length(&self) -> usize {
+        self.regions.iter().map(|region| region.length).sum::<u64>() as usize
+    }
+
+    /// Stretches of addresses without a gap, as start and length.
+    pub fn runs(&self) -> Vec<(u64, u64)> {
+        let mut runs: Vec<(u64, u64)> = Vec::new();
+        for region in &self.regions {
+            match runs.last_mut() {
+                Some(run) if run.0 + run.1 == region.start => run.1 += region.length,
+                _ => runs.push((region.start, region.length)),
+            }
+        }
+        runs
+    }
+}
+
+pub fn region_record(region: &Region) -> Vec<u8> {
+    let mut record = vec![2];
+    record.extend((region.start as u32).to_le_bytes());
+    record.extend((region.length as u32).to_le_bytes());
+    record.push(region.rights);
+    record
+}
+
+pub fn parameter_record(parameter: &Parameter) -> Vec<u8> {
+    let mut record = vec![3];
+    record.extend(parameter.number.to_le_bytes());
+    record.extend(parameter.address.to_le_bytes());
+    record.push(parameter.size);
+    record
+}
+
+pub fn item_record(item: &Item) -> Vec<u8> {
+    let mut record = vec![4, item.code, item.octets.len() as u8];
+    record.extend(&item.octets);
+    record.resize(35, 0);
+    record
+}
+
+pub fn region(start: u64, length: u64, rights: u8) -> Region {
+    Region {
+        start,
+        length,
+        rights,
+    }
+}
+
+pub fn parameter(number: u16, address: u32, size: u8) -> Parameter {
+    Parameter {
+        number,
+        address,
+        size,
+    }
+}
+
+pub fn item(code: u8, octets: &[u8]) -> Item {
+    Item {
+        code,
+        octets: octets.to_vec(),
+    }
+}

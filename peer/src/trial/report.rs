@@ -1,0 +1,69 @@
+//! A difference with all that is needed to repeat it.
+
+use super::rig::{Call, Inputs, Side};
+use std::fmt;
+
+/// The whole report of the first difference, ready to print.
+#[derive(Clone, Debug)]
+pub struct Difference {
+    lines: Vec<String>,
+}
+
+impl Difference {
+    pub fn new(call: Call, what: &str, origin: &str, inputs: &Inputs, sides: [&Side; 2]) -> Self {
+        let mut lines = vec![
+            format!("difference: {what} in {call:?}"),
+            format!("origin         {origin}"),
+            line("sheet", &inputs.sheet),
+            line("state before", &inputs.state),
+            line("memory before", &inputs.memory),
+            line("command", &inputs.command),
+            line("reply before", &inputs.reply),
+            line("trace", &inputs.trace),
+        ];
+        for (name, side) in ["peer", "t24"].into_iter().zip(sides) {
+            lines.push(format!("{name} answer: {}", answer_text(side.answer)));
+            lines.push(line(&format!("{name} state"), side.state.lend()));
+            lines.push(line(&format!("{name} memory"), side.memory.lend()));
+            lines.push(line(&format!("{name} reply"), side.reply.lend()));
+        }
+        lines.extend(changed_sheet_or_command(inputs, sides[1]));
+        Difference { lines }
+    }
+}
+
+/// Buffers lent for reading are shown again only if they have changed.
+fn changed_sheet_or_command(inputs: &Inputs, theirs: &Side) -> Vec<String> {
+    let pairs = [
+        ("t24 sheet", theirs.sheet.lend(), &inputs.sheet),
+        ("t24 command", theirs.command.lend(), &inputs.command),
+        ("t24 trace", theirs.trace.lend(), &inputs.trace),
+    ];
+    pairs
+        .iter()
+        .filter(|(_, after, before)| *after != before.as_slice())
+        .map(|(name, after, _)| line(name, after))
+        .collect()
+}
+
+fn answer_text(answer: Option<u64>) -> String {
+    match answer {
+        Some(answer) => format!("number {}, place {}", answer as u32, answer >> 32),
+        None => "none".to_string(),
+    }
+}
+
+fn line(name: &str, octets: &[u8]) -> String {
+    format!("{name:14} {} octets: {}", octets.len(), hex(octets))
+}
+
+/// Octets in upper-case hex.
+pub fn hex(octets: &[u8]) -> String {
+    octets.iter().map(|octet| format!("{octet:02X}")).collect()
+}
+
+impl fmt::Display for Difference {
+    fn fmt(&self, formatter: &mut fmt::Formatter) -> fmt::Result {
+        formatter.write_str(&self.lines.join("\n"))
+    }
+}

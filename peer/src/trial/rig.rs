@@ -1,0 +1,202 @@
+//! Runs one call on both engines and compares all they leave behind.
+
+use super::engines::{Engine, PEER};
+use super::guarded::Guarded;
+use super::progress::Progress;
+use super::report::Difference;
+use super::tally::Tally;
+use std::ptr::null_mut;
+use std::sync::atomic::{AtomicPtr, Ordering};
+
+/// The rig whose other engine is at work, for the report if that one crashes.
+pub static AT_WORK: AtomicPtr<Rig> = AtomicPtr::new(null_mut());
+
+/// The functions of an engine.
+#[derive(Clone, Copy, Debug, PartialEq, Eq, PartialOrd, Ord)]
+pub enum Call {
+    Sheet,
+    Lengths,
+    Reset,
+    Enable,
+    Exchange,
+    Replay,
+}
+
+/// What is lent to a call. State and memory stay for the next call.
+#[derive(Clone, Debug, Default)]
+pub struct Inputs {
+    pub sheet: Vec<u8>,
+    pub state: Vec<u8>,
+    pub memory: Vec<u8>,
+    pub command: Vec<u8>,
+    pub reply: Vec<u8>,
+    pub trace: Vec<u8>,
+}
+
+/// One engine with its own guarded copies of what is lent.
+pub struct Side {
+    engine: Engine,
+    /// Nothing until the call has come back.
+    pub answer: Option<u64>,
+    pub sheet: Guarded,
+    pub state: Guarded,
+    pub memory: Guarded,
+    pub command: Guarded,
+    pub reply: Guarded,
+    pub trace: Guarded,
+}
+
+impl Side {
+    fn new(engine: Engine, salt: u8) -> Side {
+        Side {
+            engine,
+            answer: None,
+            sheet: Guarded::new(salt),
+            state: Guarded::new(salt ^ 1),
+            memory: Guarded::new(salt ^ 2),
+            command: Guarded::new(salt ^ 3),
+            reply: Guarded::new(salt ^ 4),
+            trace: Guarded::new(salt ^ 5),
+        }
+    }
+
+    fn run(&mut self, call: Call, inputs: &Inputs) {
+        self.sheet.load(&inputs.sheet);
+        self.state.load(&inputs.state);
+        self.memory.load(&inputs.memory);
+        self.command.load(&inputs.command);
+        self.reply.load(&inputs.reply);
+        self.trace.load(&inputs.trace);
+        let sheet = self.sheet.lend();
+        let (state, memory) = (self.state.lend_mut(), self.memory.lend_mut());
+        let (command, reply) = (self.command.lend(), self.reply.lend_mut());
+        self.answer = None;
+        self.answer = Some(match call {
+            Call::Sheet => (self.engine.sheet)(sheet),
+            Call::Lengths => (self.engine.lengths)(sheet),
+            Call::Reset => (self.engine.reset)(sheet, state),
+            Call::Enable => (self.engine.enable)(sheet, state),
+            Call::Exchange => (self.engine.exchange)(sheet, state, memory, command, reply),
+            Call::Replay => match self.engine.replay {
+                Some(replay) => replay(sheet, state, memory, self.trace.lend()),
+                None => 0,
+            },
+        });
+    }
+
+    /// What may be written, in one order for both sides.
+    fn written(&self) -> [&[u8]; 3] {
+        [self.state.lend(), self.memory.lend(), self.reply.lend()]
+    }
+
+    fn guards_intact(&self) -> bool {
+        let all = [
+            &self.sheet,
+            &self.state,
+            &self.memory,
+            &self.command,
+            &self.reply,
+            &self.trace,
+        ];
+        all.iter().all(|buffer| buffer.intact())
+    }
+
+    fn read_only_kept(&self, inputs: &Inputs) -> bool {
+        self.sheet.lend() == inputs.sheet.as_slice()
+            && self.command.lend() == inputs.command.as_slice()
+            && self.trace.lend() == inputs.trace.as_slice()
+    }
+}
+
+/// Both engines, the inputs of the next call, and what has been seen so far.
+pub struct Rig {
+    ours: Side,
+    theirs: Side,
+    pub inputs: Inputs,
+    pub tally: Tally,
+    /// Where the calls come from, for the report of a difference.
+    pub origin: String,
+    /// Tells now and then how far the calls have come, if asked to.
+    pub progress: Option<Progress>,
+    calling: Call,
+}
+
+impl Rig {
+    pub fn new(theirs: Engine) -> Rig {
+        Rig {
+            ours: Side::new(PEER, 0x10),
+            theirs: Side::new(theirs, 0x90),
+            inputs: Inputs::default(),
+            tally: Tally::default(),
+            origin: String::new(),
+            progress: None,
+            calling: Call::Sheet,
+        }
+    }
+
+    /// Whether the other engine can replay traces.
+    pub fn replays(&self) -> bool {
+        self.theirs.engine.replay.is_some()
+    }
+
+    /// Runs both engines; on agreement state and memory are carried on.
+    pub fn call(&mut self, call: Call) -> Result<u64, Box<Difference>> {
+        self.calling = call;
+        self.ours.run(call, &self.inputs);
+        AT_WORK.store(self, Ordering::Relaxed);
+        self.theirs.run(call, &self.inputs);
+        AT_WORK.store(null_mut(), Ordering::Relaxed);
+        if let Some(what) = self.disagreement() {
+            return Err(self.difference(what));
+        }
+        let state = self.ours.state.lend().to_vec();
+        let before = std::mem::replace(&mut self.inputs.state, state);
+        self.inputs.memory.copy_from_slice(self.ours.memory.lend());
+        let (answer, reply) = (self.ours.answer.unwrap_or(0), self.ours.reply.lend());
+        self.tally.add(call, answer, &before, &self.inputs, reply);
+        if let Some(progress) = &mut self.progress {
+            progress.count(&self.origin);
+        }
+        Ok(answer)
+    }
+
+    /// As `call`, but the answer has to be this one as well.
+    pub fn expect(&mut self, call: Call, answer: u64) -> Result<(), Box<Difference>> {
+        let inputs = self.inputs.clone();
+        if self.call(call)? == answer {
+            return Ok(());
+        }
+        self.inputs = inputs;
+        Err(self.difference("the answer expected"))
+    }
+
+    fn disagreement(&self) -> Option<&'static str> {
+        let (ours, theirs) = (&self.ours, &self.theirs);
+        if ours.answer != theirs.answer {
+            return Some("the answer");
+        }
+        let names = ["the state", "the memory", "the reply"];
+        let written = ours.written();
+        if let Some(at) = (0..3).find(|&at| written[at] != theirs.written()[at]) {
+            return Some(names[at]);
+        }
+        if !theirs.read_only_kept(&self.inputs) {
+            return Some("a buffer lent for reading");
+        }
+        if !theirs.guards_intact() {
+            return Some("an octet outside a buffer");
+        }
+        None
+    }
+
+    /// The report of a difference in the call that was made last.
+    pub fn difference(&self, what: &str) -> Box<Difference> {
+        Box::new(Difference::new(
+            self.calling,
+            what,
+            &self.origin,
+            &self.inputs,
+            [&self.ours, &self.theirs],
+        ))
+    }
+}

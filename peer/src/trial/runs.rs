@@ -1,0 +1,155 @@
+//! Random sequences of calls on one sheet, each from its own random numbers.
+
+use super::commands::random_command;
+use super::damage::damaged_sheet;
+use super::layout::random_plan;
+use super::plan::Plan;
+use super::probe::{judge_sheet_briefly, Outcome};
+use super::random::Random;
+use super::recorder::Recorder;
+use super::rig::{Call, Rig};
+use super::states::{damaged_state, plain_state, random_state, DISABLED};
+
+/// Steps of one sequence.
+pub const STEPS: u64 = 64;
+
+/// One sequence: a sheet is taken, used for many exchanges, and damaged.
+pub fn run_sequence(rig: &mut Rig, seed: u64, sequence: u64) -> Outcome {
+    let mut random = Random::for_sequence(seed, sequence);
+    let plan = random_plan(&mut random);
+    rig.inputs.sheet = plan.octets();
+    rig.inputs.memory = random.octets(plan.memory_length());
+    rig.origin = format!("random: seed {seed}, sequence {sequence}, start");
+    start_state(rig, &mut random, &plan)?;
+    let mut recorder = Recorder::new(&rig.inputs.state, &rig.inputs.memory);
+    let recording = rig.replays() && random.chance(25);
+    for step in 0..STEPS {
+        rig.origin = format!("random: seed {seed}, sequence {sequence}, step {step}");
+        if random.chance(4) {
+            disturb(rig, &mut random, &plan)?;
+        }
+        let command = random_command(&mut random, &plan, &rig.inputs.state);
+        if recording {
+            recorder.record(&rig.inputs.sheet, &command);
+        }
+        rig.inputs.reply = random.octets(command.len());
+        rig.inputs.command = command;
+        rig.call(Call::Exchange)?;
+    }
+    rig.origin = format!("random: seed {seed}, sequence {sequence}, end");
+    if recording {
+        replay(rig, &mut random, &recorder)?;
+    }
+    for _ in 0..4 {
+        let sheet = damaged_sheet(&mut random, &plan);
+        judge_sheet_briefly(rig, &sheet)?;
+    }
+    Ok(())
+}
+
+/// By reset and enable, or any valid state at once.
+fn start_state(rig: &mut Rig, random: &mut Random, plan: &Plan) -> Outcome {
+    if random.chance(50) {
+        rig.inputs.state = random_state(random, plan.pdu_length);
+        return Ok(());
+    }
+    rig.inputs.state = random.octets(10);
+    rig.call(Call::Reset)?;
+    rig.call(Call::Enable)?;
+    Ok(())
+}
+
+/// A call beside the sequence, which goes on as if it had not been.
+fn disturb(rig: &mut Rig, random: &mut Random, plan: &Plan) -> Outcome {
+    let kept = rig.inputs.clone();
+    rig.inputs.command = random_command(random, plan, &kept.state);
+    rig.inputs.reply = random.octets(rig.inputs.command.len());
+    let mut call = Call::Exchange;
+    match random.below(7) {
+        0 => call = Call::Sheet,
+        1 => call = Call::Lengths,
+        2 => call = Call::Reset,
+        3 => {
+            call = Call::Enable;
+            rig.inputs.state = damaged_state(random, &kept.state);
+        }
+        4 => rig.inputs.state = damaged_state(random, &kept.state),
+        5 => disturb_disabled(rig, random, plan)?,
+        _ => resize_one(rig, random),
+    }
+    rig.call(call)?;
+    rig.inputs = kept;
+    Ok(())
+}
+
+/// While Disabled the refusals before it come first, and nothing is replayed.
+fn disturb_disabled(rig: &mut Rig, random: &mut Random, plan: &Plan) -> Outcome {
+    rig.inputs.state = plain_state(plan.pdu_length, DISABLED);
+    if random.chance(50) {
+        resize_one(rig, random);
+    }
+    rig.call(Call::Exchange)?;
+    if rig.replays() {
+        let length = random.index(3);
+        rig.inputs.trace = random.octets(length);
+        rig.call(Call::Replay)?;
+    }
+    Ok(())
+}
+
+fn resize_one(rig: &mut Rig, random: &mut Random) {
+    let inputs = &mut rig.inputs;
+    let buffers = [
+        &mut inputs.state,
+        &mut inputs.memory,
+        &mut inputs.command,
+        &mut inputs.reply,
+    ];
+    let chosen = random.index(buffers.len());
+    for (index, buffer) in buffers.into_iter().enumerate() {
+        if index == chosen || random.chance(20) {
+            let length = buffer.len();
+            let lengths = [
+                0,
+                length.saturating_sub(1),
+                length + 1,
+                length + 64,
+                8,
+                16,
+                64,
+            ];
+            buffer.resize(random.pick(&lengths), 0xEE);
+        }
+    }
+}
+
+/// Replays what the sequence has exchanged, then with one octet changed.
+fn replay(rig: &mut Rig, random: &mut Random, recorder: &Recorder) -> Outcome {
+    recorder.lend_to(&mut rig.inputs);
+    rig.call(Call::Replay)?;
+    for _ in 0..4 {
+        recorder.lend_to(&mut rig.inputs);
+        let at = random.index(recorder.trace.len());
+        rig.inputs.trace[at] ^= 1 << random.below(8);
+        rig.call(Call::Replay)?;
+    }
+    Ok(())
+}
+
+#[cfg(test)]
+mod tests {
+    use super::*;
+    use crate::trial::engines::PEER;
+
+    #[test]
+    fn a_sequence_is_repeated_exactly() {
+        let run = || {
+            let mut rig = Rig::new(PEER);
+            for sequence in 0..20 {
+                run_sequence(&mut rig, 7, sequence).map_err(|found| found.to_string())?;
+            }
+            Ok::<_, String>(rig.tally.to_string())
+        };
+        assert_eq!(run(), run());
+    }
+}

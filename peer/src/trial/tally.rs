@@ -1,0 +1,228 @@
+//! Counts of what the calls have reached, so that coverage can be seen.
+
+use super::commands::CODES;
+use super::rig::{Call, Inputs};
+use super::states::{ASYNC, LINK_AT, SYNC};
+use crate::engine::memory_mode;
+use crate::engine::octets::{number_16, number_32};
+use crate::engine::region::Region;
+use crate::engine::sheet::Sheet;
+use std::collections::BTreeMap;
+use std::fmt;
+
+const NAMES: [&str; 11] = [
+    "NOP",
+    "PRM_RD",
+    "PRM_WR",
+    "ID_RD",
+    "ALM_RD",
+    "ALM_CLR",
+    "SYNC_SET",
+    "CONNECT",
+    "DISCONNECT",
+    "MEM_RD",
+    "MEM_WR",
+];
+const ALARMS: [usize; 4] = [8, 9, 10, 12];
+
+/// Exchanges of one code that built a reply.
+#[derive(Clone, Copy, Default)]
+struct OfCode {
+    /// Accepted, by the link before.
+    accepted: [u64; 4],
+    alarms: [u64; 16],
+    lost_cycles: u64,
+}
+
+/// All calls so far.
+pub struct Tally {
+    codes: Vec<OfCode>,
+    calls: BTreeMap<Call, u64>,
+    numbers: BTreeMap<(Call, u32), u64>,
+    /// Accepted memory commands over more than one region.
+    crossings: u64,
+}
+
+impl Default for Tally {
+    fn default() -> Tally {
+        Tally {
+            codes: vec![OfCode::default(); 256],
+            calls: BTreeMap::new(),
+            numbers: BTreeMap::new(),
+            crossings: 0,
+        }
+    }
+}
+
+impl Tally {
+    /// Counts a call on which both engines agreed.
+    pub fn add(&mut self, call: Call, answer: u64, before: &[u8], after: &Inputs, reply: &[u8]) {
+        *self.calls.entry(call).or_insert(0) += 1;
+        if call != Call::Lengths {
+            *self.numbers.entry((call, answer as u32)).or_insert(0) += 1;
+        }
+        if call == Call::Exchange && answer == 0 {
+            self.add_reply(before[LINK_AT], after, reply);
+        }
+    }
+
+    fn add_reply(&mut self, before: u8, after: &Inputs, reply: &[u8]) {
+        let of_code = &mut self.codes[usize::from(reply[0])];
+        let alarm = usize::from(reply[3] & 15);
+        if before == SYNC && after.state[LINK_AT] == ASYNC {
+            of_code.lost_cycles += 1;
+        } else if alarm == 0 {
+            of_code.accepted[usize::from(before)] += 1;
+            self.crossings += u64::from(crosses_regions(after));
+        } else {
+            of_code.alarms[alarm] += 1;
+        }
+    }
+
+    /// Calls of that kind.
+    pub fn calls(&self, call: Call) -> u64 {
+        self.calls.get(&call).copied().unwrap_or(0)
+    }
+
+    /// Calls of all kinds.
+    pub fn all_calls(&self) -> u64 {
+        self.calls.values().sum()
+    }
+
+    /// Calls with that answer number.
+    fn numbered(&self, call: Call, number: u32) -> u64 {
+        self.numbers.get(&(call, number)).copied().unwrap_or(0)
+    }
+
+    /// What the rules can give but no call has given yet.
+    pub fn gaps(&self, with_replay: bool) -> Vec<String> {
+        let mut gaps = Vec::new();
+        for (&code, name) in CODES.iter().zip(NAMES) {
+            let of_code = &self.codes[usize::from(code)];
+            for link in links_allowing(code) {
+                if of_code.accepted[usize::from(link)] == 0 {
+                    gaps.push(format!("{name} accepted in link {link}"));
+                }
+            }
+            for alarm in alarms_of(code) {
+                if of_code.alarms[alarm] == 0 {
+                    gaps.push(format!("{name} with alarm {alarm}"));
+                }
+            }
+            if of_code.lost_cycles == 0 {
+                gaps.push(format!("{name} in a lost cycle"));
+            }
+        }
+        if self.crossings == 0 {
+            gaps.push("memory command over two regions".to_string());
+        }
+        gaps.extend(self.number_gaps(with_replay));
+        gaps
+    }
+
+    fn number_gaps(&self, with_replay: bool) -> Vec<String> {
+        let sheet = [0, 11, 12, 13, 14, 15, 16, 17];
+        let mut wanted: Vec<(Call, u32)> = Vec::new();
+        for call in [Call::Sheet, Call::Reset, Call::Enable, Call::Exchange] {
+            wanted.extend(sheet.map(|number| (call, number)));
+        }
+        wanted.extend([(Call::Reset, 1), (Call::Enable, 1), (Call::Enable, 6)]);
+        wanted.extend([1, 2, 3, 4, 5].map(|number| (Call::Exchange, number)));
+        if with_replay {
+            wanted.extend(sheet.map(|number| (Call::Replay, number)));
+            wanted.extend([1, 2, 5, 31, 32, 33, 34].map(|number| (Call::Replay, number)));
+        }
+        wanted
+            .into_iter()
+            .filter(|&(call, number)| self.numbered(call, number) == 0)
+            .map(|(call, number)| format!("{call:?} with number {number}"))
+            .collect()
+    }
+
+    fn write_code(&self, formatter: &mut fmt::Formatter, name: &str, sum: &OfCode) -> fmt::Result {
+        write!(formatter, "{name:11}")?;
+        for link in 1..4 {
+            write!(formatter, " {:10}", sum.accepted[link])?;
+        }
+        for alarm in ALARMS {
+            write!(formatter, " {:9}", sum.alarms[alarm])?;
+        }
+        writeln!(formatter, " {:9}", sum.lost_cycles)
+    }
+
+    fn other_codes(&self) -> OfCode {
+        let mut sum = OfCode::default();
+        for code in (0..=255u8).filter(|code| !CODES.contains(code)) {
+            let of_code = &self.codes[usize::from(code)];
+            for alarm in ALARMS {
+                sum.alarms[alarm] += of_code.alarms[alarm];
+            }
+            sum.lost_cycles += of_code.lost_cycles;
+        }
+        sum
+    }
+}
+
+/// Whether an accepted command reached memory in more than one region.
+fn crosses_regions(inputs: &Inputs) -> bool {
+    let command = &inputs.command;
+    if command[0] != 0x1D && command[0] != 0x1E {
+        return false;
+    }
+    let element = memory_mode::element_octets(command[5]).unwrap_or(0) as u64;
+    let start = u64::from(number_32(command, 8));
+    let end = start + element * u64::from(number_16(command, 6));
+    match Sheet::read(&inputs.sheet) {
+        Ok(sheet) => {
+            let touched = |region: &Region| start < region.end() && region.start < end;
+            sheet.regions().filter(touched).count() > 1
+        }
+        Err(_) => false,
+    }
+}
+
+/// The links in which a code can be accepted.
+fn links_allowing(code: u8) -> Vec<u8> {
+    match code {
+        0x00 | 0x0F => vec![1, 2, 3],
+        0x0E => vec![1],
+        0x0D => vec![2],
+        _ => vec![2, 3],
+    }
+}
+
+/// The alarms a known code can get.
+fn alarms_of(code: u8) -> Vec<usize> {
+    match code {
+        0x00 | 0x0F => vec![],
+        0x0D => vec![12],
+        0x03 | 0x05 | 0x06 | 0x0E => vec![9, 12],
+        _ => vec![9, 10, 12],
+    }
+}
+
+impl fmt::Display for Tally {
+    fn fmt(&self, formatter: &mut fmt::Formatter) -> fmt::Result {
+        write!(formatter, "{:11}", "command")?;
+        for link in 1..4 {
+            write!(formatter, " acc. link{link}")?;
+        }
+        for alarm in ALARMS {
+            write!(formatter, " {:>9}", format!("alarm {alarm}"))?;
+        }
+        writeln!(formatter, "      lost")?;
+        for (&code, name) in CODES.iter().zip(NAMES) {
+            self.write_code(formatter, name, &self.codes[usize::from(code)])?;
+        }
+        self.write_code(formatter, "other codes", &self.other_codes())?;
+        writeln!(
+            formatter,
+            "accepted over more than one region: {}",
+            self.crossings
+        )?;
+        for (&(call, number), count) in &self.numbers {
+            writeln!(formatter, "{call:?} with number {number}: {count}")?;
+        }
+        Ok(())
+    }
+}
