@@ -1,8 +1,6 @@
 /* Cuts a fuzz input into a sheet, a state, a memory and commands.
  *
- * Most sheets are built from records that tend to be good, so that the fuzzer
- * gets past the sheet; then octets of it may be changed, or it may be cut.
- */
+ * Most sheets are built from good records; then some are changed or cut. */
 #ifndef PARTS_H
 #define PARTS_H
 

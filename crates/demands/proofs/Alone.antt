@@ -7,9 +7,9 @@ use lib.ListN.{length, getD, set}
 use Rattle.sheet.specs.Walk.{verdictOf}
 use Rattle.sheet.specs.declared.walk.Layout.{Layout}
 use Rattle.sheet.specs.declared.walk.Verdict.the-variants.{Valid}
-use Rattle.slave.specs.Exchange.{Left}
+use Rattle.slave.specs.Exchange.{Left, exchangeOf}
 use Rattle.demands.specs.Hidden.{Readable, DifferOnlyHidden, Seen, seen}
-use Rattle.demands.specs.Idle.{Program, KeepsSecrets, refusesAll, singleReply, storesNothing, echoes, echoesAfterwards, inventing, inventsRsn}
+use Rattle.demands.specs.Idle.{Program, KeepsSecrets, AgreesWhereReached, refusesAll, singleReply, storesNothing, echoes, echoesAfterwards, inventing, inventsRsn}
 use Rattle.demands.specs.Sequences.{Call, Reset, Enable, Exchange, callOf, runOf, lastMemory}
 use Rattle.demands.proofs.Secrets.{call-kept, demand-3}
 
@@ -87,12 +87,16 @@ stores-nothing-keeps-secrets sheet lay v state m₁ m₂ d calls =
     (stores-seen sheet lay v m₁ m₂ d calls state, still-agree _ _ m₁ m₂ (stores-last sheet state m₁ calls) (stores-last sheet state m₂ calls))
 
 pub echoes-afterwards-keeps-secrets : KeepsSecrets echoesAfterwards
-unfolding echoesAfterwards lastMemory
+unfolding callOf echoesAfterwards lastMemory
 echoes-afterwards-keeps-secrets sheet lay v state m₁ m₂ d [] = (refl, λ i e. e)
-echoes-afterwards-keeps-secrets sheet lay v state m₁ m₂ d (c ∷ cs) =
-    let k = call-kept sheet lay v (λ i. getD m₁ i 0 ≡ getD m₂ i 0) (d .shown) state m₁ m₂ (d .whole₁) (d .whole₂) (λ i e. e) c in
-    let l₁ = callOf sheet state m₁ c in
-    let l₂ = callOf sheet state m₂ c in (
+echoes-afterwards-keeps-secrets sheet lay v state m₁ m₂ d (Reset ∷ cs) =
+    let k = echoes-afterwards-keeps-secrets sheet lay v (callOf sheet state m₁ Reset .state) m₁ m₂ d cs in (behind (k .0), k .1)
+echoes-afterwards-keeps-secrets sheet lay v state m₁ m₂ d (Enable ∷ cs) =
+    let k = echoes-afterwards-keeps-secrets sheet lay v (callOf sheet state m₁ Enable .state) m₁ m₂ d cs in (behind (k .0), k .1)
+echoes-afterwards-keeps-secrets sheet lay v state m₁ m₂ d (Exchange command reply ∷ cs) =
+    let k = call-kept sheet lay v (λ i. getD m₁ i 0 ≡ getD m₂ i 0) (d .shown) state m₁ m₂ (d .whole₁) (d .whole₂) (λ i e. e) (Exchange command reply) in
+    let l₁ = exchangeOf sheet state m₁ command reply in
+    let l₂ = exchangeOf sheet state m₂ command reply in (
       ap₂ (λ (x : Seen) (xs : List Seen). x ∷ xs) (k .same)
           (echoes-seen sheet (l₁ .state) (l₁ .memory) (l₂ .memory) cs
           ∙ ap (λ (s : List ℕ). map seen (echoes s (l₂ .memory) cs)) (ap (λ (x : Seen). x .state) (k .same))),
@@ -119,3 +123,9 @@ invents-rsn-keeps-secrets sheet lay v state m₁ m₂ d calls =
       invents-seen (runOf sheet state m₁ calls) ∙ ap (map inventedSeen) (k .0) ∙ sym (invents-seen (runOf sheet state m₂ calls)),
       λ i e. still-agree _ _ _ _ (invents-last m₁ (runOf sheet state m₁ calls)) (invents-last m₂ (runOf sheet state m₂ calls)) i (k .1 i e),
     )
+
+pub invents-rsn-agrees-where-reached : AgreesWhereReached inventsRsn
+unfolding inventsRsn
+invents-rsn-agrees-where-reached sheet lay v state m₁ m₂ d calls i r =
+    still-agree _ _ _ _ (invents-last m₁ (runOf sheet state m₁ calls)) (invents-last m₂ (runOf sheet state m₂ calls)) i
+    (demand-3 sheet lay v state m₁ m₂ d calls .2 i r)

@@ -1,9 +1,10 @@
 -- The owner's page, proved.
 use Rattle.demands.specs.Demands.{FirstDemand, SecondDemand, ThirdDemand, IdlePrograms, OnTheBench}
-use Rattle.demands.proofs.Alone.{refuses-all-keeps-secrets, single-reply-keeps-secrets, stores-nothing-keeps-secrets, echoes-afterwards-keeps-secrets, invents-rsn-keeps-secrets}
+use Rattle.demands.proofs.Alone.{refuses-all-keeps-secrets, single-reply-keeps-secrets, stores-nothing-keeps-secrets, echoes-afterwards-keeps-secrets, invents-rsn-keeps-secrets, invents-rsn-agrees-where-reached}
 use Rattle.demands.proofs.Bench.{sheet-p-is-valid, bench-cases}
 use Rattle.demands.proofs.Exact.{acceptance-is-exact, rights-over-whole-span}
 use Rattle.demands.proofs.Histories.{history-is-run}
+use Rattle.demands.proofs.Lengths.{memory-keeps-its-length}
 use Rattle.demands.proofs.Owned.{writes-own-octets}
 use Rattle.demands.proofs.Refusals.{refused-changes-nothing, states-stay-valid}
 use Rattle.demands.proofs.Secrets.{demand-3}
@@ -19,6 +20,7 @@ second-demand = record {
   rights-over-the-whole-span = rights-over-whole-span;
   over-every-sequence = λ sheet state memory calls ls h. history-is-run sheet h;
   a-write-stores-its-own-octets = writes-own-octets;
+  the-memory-keeps-its-length = memory-keeps-its-length;
   two-resets-are-one = one-reset;
   two-enables-are-one = one-enable;
   two-exchanges-are-one = one-exchange;
@@ -33,7 +35,7 @@ idle-programs = record {
   a-single-reply = (single-reply-is-shut-out, single-reply-keeps-secrets);
   storing-nothing = (stores-nothing-is-shut-out, stores-nothing-keeps-secrets);
   echoing-afterwards = (echoes-afterwards-is-shut-out, echoes-afterwards-keeps-secrets);
-  inventing-rsn = (invents-rsn-is-shut-out, invents-rsn-keeps-secrets);
+  inventing-rsn = (invents-rsn-is-shut-out, invents-rsn-keeps-secrets, invents-rsn-agrees-where-reached);
 }
 
 pub on-the-bench : OnTheBench

@@ -9,6 +9,7 @@ pub mod Shown
 pub mod Memories
 pub mod Owned
 pub mod Secrets
+pub mod Lengths
 pub mod Exact
 pub mod Shut
 pub mod Alone

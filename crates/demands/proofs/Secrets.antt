@@ -68,7 +68,7 @@ module _ (command m₁ m₂ : List ℕ) (l : ℕ) (same : length m₁ ≡ length
   effect-same (Alarms old fault) k f i a = a
   effect-same Connects k f i a = a
 
-  effect-length : (m : List ℕ) → length m ≡ length m₁ → (e : Effect) (k : ℕ) → Fitting e l (length m₁) k → length (memoryAfter e command m) ≡ length m
+  pub effect-length : (m : List ℕ) → length m ≡ length m₁ → (e : Effect) (k : ℕ) → Fitting e l (length m₁) k → length (memoryAfter e command m) ≡ length m
   unfolding memoryAfter
   effect-length m q Quiet k f = refl
   effect-length m q (Reads by place n) k f = refl

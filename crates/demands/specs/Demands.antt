@@ -6,11 +6,11 @@ use Rattle.slave.specs.Exchange.{Left}
 use Rattle.demands.specs.Accepted.{AcceptanceIsExact, RightsOverWholeSpan}
 use Rattle.demands.specs.Bench.{SheetPIsValid, BenchCases}
 use Rattle.demands.specs.Hidden.{Demand3}
-use Rattle.demands.specs.Idle.{Demand2, KeepsSecrets, refusesAll, singleReply, storesNothing, echoesAfterwards, inventsRsn}
+use Rattle.demands.specs.Idle.{Demand2, KeepsSecrets, AgreesWhereReached, refusesAll, singleReply, storesNothing, echoesAfterwards, inventsRsn}
 use Rattle.demands.specs.Refused.{RefusedChangesNothing, StatesStayValid}
 use Rattle.demands.specs.Sequences.{Call, runOf, History}
 use Rattle.demands.specs.Unique.{OneReset, OneEnable, OneExchange}
-use Rattle.demands.specs.Writes.{WritesOwnOctets}
+use Rattle.demands.specs.Writes.{WritesOwnOctets, MemoryKeepsItsLength}
 
 -- "1. Each call answers on every input. .. A refused call gives its number and, for the sheet, the place; state, memory and reply then hold what they
 -- held before." That each call answers is the promise of each function, which has no premise; the rest is here, and that a reset makes every later
@@ -27,6 +27,7 @@ pub record SecondDemand : Type 0 where
   pub over-every-sequence :
       (sheet state memory : List ℕ) (calls : List Call) (ls : List Left) → History sheet state memory calls ls → ls ≡ runOf sheet state memory calls
   pub a-write-stores-its-own-octets : WritesOwnOctets
+  pub the-memory-keeps-its-length : MemoryKeepsItsLength
   pub two-resets-are-one : OneReset
   pub two-enables-are-one : OneEnable
   pub two-exchanges-are-one : OneExchange
@@ -36,13 +37,14 @@ pub record SecondDemand : Type 0 where
 abbrev pub ThirdDemand : Type 0
 ThirdDemand = Demand3
 
--- "Demand 2 shuts out five idle programs .. Some meet demand 3 alone": all five keep secrets, and none meets demand 2
+-- "Demand 2 shuts out five idle programs .. Some meet demand 3 alone": none meets demand 2. All five keep secrets, which is demand 3 without its last
+-- part; the one that invents RSN meets the last part too, and so all of demand 3.
 pub record IdlePrograms : Type 0 where
   pub refusing-all : (Demand2 refusesAll → ⊥) × KeepsSecrets refusesAll
   pub a-single-reply : (Demand2 singleReply → ⊥) × KeepsSecrets singleReply
   pub storing-nothing : (Demand2 storesNothing → ⊥) × KeepsSecrets storesNothing
   pub echoing-afterwards : (Demand2 echoesAfterwards → ⊥) × KeepsSecrets echoesAfterwards
-  pub inventing-rsn : (Demand2 inventsRsn → ⊥) × KeepsSecrets inventsRsn
+  pub inventing-rsn : (Demand2 inventsRsn → ⊥) × KeepsSecrets inventsRsn × AgreesWhereReached inventsRsn
 
 -- "All eleven are proved": the bench cases, as one list, and that sheet P is valid
 pub record OnTheBench : Type 0 where

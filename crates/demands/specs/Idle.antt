@@ -9,11 +9,12 @@ use Rattle.sheet.specs.Walk.{verdictOf}
 use Rattle.sheet.specs.declared.walk.Layout.{Layout}
 use Rattle.sheet.specs.declared.walk.Verdict.the-variants.{Valid}
 use Rattle.slave.specs.Answers.{told}
-use Rattle.slave.specs.Exchange.{Left, left}
+use Rattle.slave.specs.Exchange.{Left, left, exchangeOf}
 use Rattle.demands.specs.Bench.{case1}
 use Rattle.demands.specs.Hidden.{DifferOnlyHidden, seen}
 use Rattle.demands.specs.Refused.{lentReply}
 use Rattle.demands.specs.Sequences.{Call, Reset, Enable, Exchange, callOf, runOf, lastMemory}
+use Rattle.demands.specs.Writes.{Reached}
 
 -- a program, by what each call of a sequence leaves, of a sheet, a state and a memory
 abbrev pub Program : Type 0
@@ -23,7 +24,8 @@ Program = List ℕ → List ℕ → List ℕ → List Call → List Left
 abbrev pub Demand2 : Program → Type 0
 Demand2 p = (sheet state memory : List ℕ) (calls : List Call) → p sheet state memory calls ≡ runOf sheet state memory calls
 
--- what demand 3 asks of any program alone: the same is seen, and memories differ nowhere that they did not differ
+-- what demand 3 asks of any program alone: the same is seen, and memories differ nowhere that they did not differ. Its last part speaks of accepted
+-- writes, and so of demand 2's machine; it follows below.
 abbrev pub KeepsSecrets : Program → Type 0
 KeepsSecrets p =
     (sheet : List ℕ) (lay : Layout) → verdictOf sheet ≡ Valid lay
@@ -31,6 +33,14 @@ KeepsSecrets p =
     → (map seen (p sheet state m₁ calls) ≡ map seen (p sheet state m₂ calls))
     × ((place : ℕ) → getD m₁ place 0 ≡ getD m₂ place 0
     → getD (lastMemory m₁ (p sheet state m₁ calls)) place 0 ≡ getD (lastMemory m₂ (p sheet state m₂ calls)) place 0)
+
+-- the last part of demand 3: the memories agree wherever a write that demand 2's machine accepts has reached
+abbrev pub AgreesWhereReached : Program → Type 0
+AgreesWhereReached p =
+    (sheet : List ℕ) (lay : Layout) → verdictOf sheet ≡ Valid lay
+    → (state m₁ m₂ : List ℕ) → DifferOnlyHidden sheet lay m₁ m₂ → (calls : List Call)
+    → (place : ℕ) → Reached sheet state m₁ calls place
+    → getD (lastMemory m₁ (p sheet state m₁ calls)) place 0 ≡ getD (lastMemory m₂ (p sheet state m₂ calls)) place 0
 
 -- one that refuses all
 unfoldable pub refusesAll : Program
@@ -59,8 +69,13 @@ echoes state memory (Exchange command reply ∷ cs) = left (told 0 0) state memo
 -- one that works in the first exchange and echoes afterwards
 unfoldable pub echoesAfterwards : Program
 echoesAfterwards sheet state memory [] = []
-echoesAfterwards sheet state memory (c ∷ cs) =
-    callOf sheet state memory c ∷ echoes (callOf sheet state memory c .state) (callOf sheet state memory c .memory) cs
+echoesAfterwards sheet state memory (Reset ∷ cs) =
+    callOf sheet state memory Reset ∷ echoesAfterwards sheet (callOf sheet state memory Reset .state) memory cs
+echoesAfterwards sheet state memory (Enable ∷ cs) =
+    callOf sheet state memory Enable ∷ echoesAfterwards sheet (callOf sheet state memory Enable .state) memory cs
+echoesAfterwards sheet state memory (Exchange command reply ∷ cs) =
+    exchangeOf sheet state memory command reply
+    ∷ echoes (exchangeOf sheet state memory command reply .state) (exchangeOf sheet state memory command reply .memory) cs
 
 -- one that invents RSN: it works as the machine does, and puts RSN 15 into every reply
 abbrev pub inventing : Left → Left

@@ -51,6 +51,11 @@ WritesOwnOctets =
     × (((k : ℕ) → Wrote sheet state memory command reply place k → ⊥)
     → getD (exchangeOf sheet state memory command reply .memory) place 0 ≡ getD memory place 0)
 
+-- the memory keeps its length, so that the octets above are all that it has
+abbrev pub MemoryKeepsItsLength : Type 0
+MemoryKeepsItsLength =
+    (sheet state memory command reply : List ℕ) → length (exchangeOf sheet state memory command reply .memory) ≡ length memory
+
 -- a call's accepted write reached a place
 abbrev pub ReachedBy : List ℕ → List ℕ → List ℕ → Call → ℕ → Type 0
 ReachedBy sheet state memory Reset place = ⊥
