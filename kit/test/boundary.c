@@ -36,7 +36,9 @@ static const struct group groups[] = {
     { "refusals: really big buffers", refusal_big },
     { "refusals: null pointers of length 0", refusal_empty },
     { "state: every octet changed", state_octets },
-    { "random calls beside the model", random_calls }
+    { "commands: every octet changed", command_octets },
+    { "random calls beside the model", random_calls },
+    { "each number met at each call that has it", all_numbers_met }
 };
 
 int main(int argc, char **argv)

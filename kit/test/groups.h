@@ -18,7 +18,9 @@ void accident_reply(void);
 void accident_other_l(void);
 void bench_cases(void);
 void bench_program(void);
+void command_octets(void);
 void random_calls(void);
+void all_numbers_met(void);
 
 extern long random_count; /* how many random calls to make */
 

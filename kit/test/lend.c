@@ -25,6 +25,7 @@ static struct {
 
 static size_t room_len;
 static long calls, failures;
+static long answers[ASK_EXCHANGE + 1][18];
 static const char *group_name = "", *label_text = "";
 static long label_number;
 
@@ -186,6 +187,8 @@ static int call_and_compare(enum which which, uint64_t answer, int back,
     if (locked)
         lock(PROT_READ | PROT_WRITE);
     calls++;
+    if (t24_number(got) < 18)
+        answers[which][t24_number(got)]++;
     if (got != answer) {
         if (failures < REPORTS_SHOWN)
             fprintf(stderr, "  answer number %lu place %lu, wanted %lu %lu\n",
@@ -223,6 +226,11 @@ uint64_t ask_model(enum which which)
 int expect_model(enum which which)
 {
     return expect(which, ask_model(which));
+}
+
+long met(enum which which, unsigned number)
+{
+    return answers[which][number];
 }
 
 void check(int right, const char *what)

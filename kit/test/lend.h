@@ -38,6 +38,9 @@ int expect_on_side(enum which which, uint64_t answer, int back);
 int expect_model(enum which which);
 uint64_t ask_model(enum which which);
 
+/* How often a call has answered a number from 0 to 17 so far. */
+long met(enum which which, unsigned number);
+
 /* Counts and reports a condition that is no call. */
 void check(int right, const char *what);
 

@@ -42,7 +42,7 @@ test_oven() {
     run "$work/oven" "$work/p.bin" >"$work/out" || fail "oven"
     cmp "$work/out" "$work/p.want" || fail "oven's replies"
     cat "$work/out"
-    refused_with cut.bin "sheet refused: number 11, sheet: ends too early or is too long, at octet 32"
+    refused_with cut.bin "sheet: ends too early or is too long, at octet 32"
     refused_with bare.bin "MEM_RD refused: alarm 9, a field of the command is wrong"
     refused_with readonly.bin "MEM_WR refused: alarm 10, no right to part of the span"
     test_pkg_config

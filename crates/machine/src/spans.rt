@@ -52,7 +52,7 @@ fn moves(writes: bool, by: Carrier, place: u64, size: u8) -> Effect
     Effect::Reads(by, place, size)
 }
 
-// A span asked to be read, or to be written: all of it mapped, then all of it with the right.
+// A span asked to be read, or to be written. What has the right is mapped, so one search of the span accepts it; a second tells why it is refused.
 pub fn span(
     writes: bool,
     sheet: &[u8],
@@ -64,14 +64,14 @@ pub fn span(
 ) -> Judgement
     ensures { λ r. ⌜ r ≡ spanOf writes (regionsOf (now (sheet .entry)) regions) by address size st ⌝ }
 {
-    if !has(sheet, regions, Right::Mapped, address, size) {
-        return Judgement::Refused(OUT_OF_RANGE);
+    if has(sheet, regions, right_of(writes, st.link), address, size) {
+        return Judgement::Accepted(
+            moves(writes, by, place_of(sheet, regions, address), size),
+            st,
+        );
     }
-    if !has(sheet, regions, right_of(writes, st.link), address, size) {
+    if has(sheet, regions, Right::Mapped, address, size) {
         return Judgement::Refused(NO_RIGHT);
     }
-    Judgement::Accepted(
-        moves(writes, by, place_of(sheet, regions, address), size),
-        st,
-    )
+    Judgement::Refused(OUT_OF_RANGE)
 }

@@ -1,0 +1,22 @@
+/* Last of all: each number was answered by each call that can answer it. */
+#include "groups.h"
+
+void all_numbers_met(void)
+{
+    static const unsigned numbers[] = {
+        0, 1, 2, 3, 4, 5, 6, 11, 12, 13, 14, 15, 16, 17
+    };
+    /* By call: sheet, lengths (which answers lengths), reset, enable, exchange. */
+    static const char *const can[] = {
+        "x......xxxxxxx", "..............", "xx.....xxxxxxx",
+        "xx....xxxxxxxx", "xxxxxx.xxxxxxx"
+    };
+    int which, i;
+
+    for (which = ASK_SHEET; which <= ASK_EXCHANGE; which++)
+        for (i = 0; i < 14 && which != ASK_LENGTHS; i++) {
+            label("number", (long)numbers[i]);
+            check((met((enum which)which, numbers[i]) > 0)
+                  == (can[which][i] == 'x'), "met where it should not, or not");
+        }
+}
