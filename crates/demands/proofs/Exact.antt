@@ -26,7 +26,7 @@ use Rattle.machine.specs.declared.words.Outcome.{Outcome}
 use Rattle.regions.specs.Search.{grantsOf, spanHas}
 use Rattle.regions.specs.declared.Region.{Region}
 use Rattle.regions.specs.declared.Right.{Right}
-use Rattle.regions.proofs.Reach.{all-before, before-all}
+use Rattle.regions.proofs.Spans.{all-before, before-all}
 use Rattle.sheet.specs.declared.entries.SoughtItem.{SoughtItem}
 use Rattle.sheet.specs.declared.entries.SoughtParameter.{SoughtParameter}
 use Rattle.sheet.specs.declared.walk.Layout.{Layout}

@@ -26,7 +26,7 @@ use Rattle.regions.specs.declared.Region.{Region}
 use Rattle.regions.specs.declared.Right.the-variants.{Mapped, Read}
 use Rattle.regions.specs.declared.search.Spot.the-variants.{At}
 use Rattle.regions.proofs.Places.{Stands, spot-rights, mapped-spot, span-places}
-use Rattle.regions.proofs.Reach.{all-before}
+use Rattle.regions.proofs.Spans.{all-before}
 use Rattle.sheet.specs.declared.entries.SoughtItem.{SoughtItem}
 use Rattle.sheet.specs.declared.entries.SoughtParameter.{SoughtParameter}
 use Rattle.sheet.specs.declared.walk.Layout.{Layout}

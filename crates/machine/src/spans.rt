@@ -8,16 +8,9 @@ use link::state::LinkState;
 use regions::Right;
 use regions::search::Spot;
 ghost use mathlib.Core.Path.{_≡_};
+ghost use Rattle.regions.specs.Apart.{Apart};
 ghost use Rattle.regions.specs.Region.{regionsOf};
-ghost use Rattle.regions.specs.Search.{spanHas};
 ghost use Rattle.machine.specs.Spans.{rightOf, moved, spanPlace, spanOf};
-
-// Whether every octet of a span has the right.
-fn has(sheet: &[u8], regions: u8, right: Right, address: u32, size: u8) -> bool
-    ensures { λ r. ⌜ r ≡ spanHas (regionsOf (now (sheet .entry)) regions) right address size ⌝ }
-{
-    regions::search::before(sheet, regions, right, address, size) == size
-}
 
 // The memory place of a span's first octet; 0 where no region has it.
 fn place_of(sheet: &[u8], regions: u8, address: u32) -> u64
@@ -62,15 +55,16 @@ pub fn span(
     size: u8,
     st: LinkState,
 ) -> Judgement
+    requires { ⌜ Apart 0 (regionsOf (now sheet) regions) ⌝ }
     ensures { λ r. ⌜ r ≡ spanOf writes (regionsOf (now (sheet .entry)) regions) by address size st ⌝ }
 {
-    if has(sheet, regions, right_of(writes, st.link), address, size) {
+    if regions::search::has(sheet, regions, right_of(writes, st.link), address, size) {
         return Judgement::Accepted(
             moves(writes, by, place_of(sheet, regions, address), size),
             st,
         );
     }
-    if has(sheet, regions, Right::Mapped, address, size) {
+    if regions::search::has(sheet, regions, Right::Mapped, address, size) {
         return Judgement::Refused(NO_RIGHT);
     }
     Judgement::Refused(OUT_OF_RANGE)

@@ -1,11 +1,14 @@
 -- Regions given by their index.
 --     apart-listed     regions that rise from index to index are apart
+--     apart-rises      and regions that are apart rise
 --     total-more       one region more takes its own length more
+use mathlib.Core.Logic.{⊎-elim}
 use mathlib.Core.Path.{_≡_, sym, ap, _∙_}
 use Prim.Native.Nat.{ℕ, zero, suc, _+_, _<_, _≤_}
 use native.Mathlib.Nat.{le-refl, add-zero, zero-add, add-assoc}
 use native.Mathlib.Numerals.{add-one}
 use native.Mathlib.Omega.{arith}
+use Rattle.octets.proofs.Cases.{eq-or-ne}
 use Rattle.regions.specs.Apart.{Apart}
 use Rattle.regions.specs.Region.{listed}
 use Rattle.regions.specs.Search.{totalOf}
@@ -27,6 +30,27 @@ module _ (f : ℕ → Region) where
         (λ i l u. rise i (omega arith) (omega arith))
         (λ h. rise k (le-refl k) (omega arith)),
   )
+
+  -- every region starts at or past the end that they are apart from
+  starts-past : (k m end : ℕ) → Apart end (listed f k m) → (i : ℕ) → k ≤ i → i < k + m → end ≤ f i .start
+  unfolding listed
+  starts-past k zero end d i l u = absurd (let z : ⊥ = omega arith in z)
+  starts-past k (suc m) end d i l u =
+      ⊎-elim
+      (λ (e : i ≡ k). rw e (d .0))
+      (λ (e : i ≡ k → ⊥).
+      let t = starts-past (suc k) m (f k .start + f k .length) (d .2) i (omega arith) (omega arith) in
+      omega (arith, d .0))
+      (eq-or-ne i k)
+
+  pub apart-rises : (k m end : ℕ) → Apart end (listed f k m) → (j i : ℕ) → k ≤ j → j < i → i < k + m → f j .start + f j .length ≤ f i .start
+  unfolding listed
+  apart-rises k zero end d j i l b u = absurd (let z : ⊥ = omega arith in z)
+  apart-rises k (suc m) end d j i l b u =
+      ⊎-elim
+      (λ (e : j ≡ k). rw e (starts-past (suc k) m (f k .start + f k .length) (d .2) i (omega arith) (omega arith)))
+      (λ (e : j ≡ k → ⊥). apart-rises (suc k) m (f k .start + f k .length) (d .2) j i (omega arith) b (omega arith))
+      (eq-or-ne j k)
 
   more : (k m : ℕ) → totalOf (listed f k (suc m)) ≡ totalOf (listed f k m) + f (k + m) .length
   unfolding listed totalOf

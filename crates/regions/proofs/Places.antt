@@ -21,7 +21,7 @@ use Rattle.regions.specs.declared.Right.{Right}
 use Rattle.regions.specs.declared.Right.the-variants.{Mapped}
 use Rattle.regions.specs.declared.search.Spot.the-variants.{At, Nowhere}
 use Rattle.regions.proofs.Bounds.{holds-bounds, past-misses, misses-past}
-use Rattle.regions.proofs.Reach.{all-before}
+use Rattle.regions.proofs.Spans.{all-before}
 
 -- an octet has a place, whichever rights stand there
 abbrev pub Stands : List Region → ℕ → ℕ → ℕ → Type 0

@@ -1,9 +1,13 @@
 // What is found in the regions of a sheet.
 use crate::Right;
 ghost use mathlib.Core.Path.{_≡_};
+ghost use Prim.Native.Nat.{_+_, _-_};
+ghost use lib.Dec.{ltb};
+ghost use Rattle.octets.specs.Pick.{pick};
+ghost use Rattle.regions.specs.Apart.{Apart};
+ghost use Rattle.regions.specs.Passed.{passedOf};
 ghost use Rattle.regions.specs.Region.{regionsOf};
-ghost use Rattle.regions.specs.Reach.{reachOf};
-ghost use Rattle.regions.specs.Search.{spotOf, beforeOf};
+ghost use Rattle.regions.specs.Search.{spotOf, beforeOf, spanHas};
 
 // Where an octet stands: at a memory place, with its region's rights, or in no region.
 pub enum Spot {
@@ -28,42 +32,68 @@ pub fn spot_at(sheet: &[u8], regions: u8, address: u64) -> Spot
     Spot::Nowhere
 }
 
-// One past the last of the addresses that the regions, gone through once in their order, have without a gap from `address` on.
-pub fn reach(sheet: &[u8], regions: u8, address: u32) -> u64
-    ensures { λ r. ⌜ r ≡ reachOf (regionsOf (now (sheet .entry)) regions) address ⌝ }
+// How many regions, from the first on, end at or before an address: they are halved until one is left.
+pub fn passed(sheet: &[u8], regions: u8, address: u64) -> u8
+    requires { ⌜ Apart 0 (regionsOf (now sheet) regions) ⌝ }
+    ensures { λ r. ⌜ r ≡ passedOf (regionsOf (now (sheet .entry)) regions) address ⌝ }
 {
-    let mut to = address as u64;
-    let mut i: u8 = 0;
-    while i < regions {
-        let region = crate::region_at(sheet, i);
-        if crate::holds(region, to) {
-            to = region.start as u64 + region.length as u64;
+    let mut low: u8 = 0;
+    let mut high: u8 = regions;
+    while low < high {
+        let middle = low + (high - low) / 2;
+        let region = crate::region_at(sheet, middle);
+        if address < region.start as u64 + region.length as u64 {
+            high = middle;
+        } else {
+            low = middle + 1;
         }
-        i += 1;
     }
-    to
+    low
 }
 
-// How many octets of a span come before the first that lacks the right: octets outside, regions inside.
+// How many of a span's octets stand before an address.
+fn short_of(to: u64, address: u32, size: u8) -> u8
+    ensures { λ r. ⌜ r ≡ pick (ltb to (address + size)) (to - address) size ⌝ }
+{
+    if to < address as u64 {
+        return 0;
+    }
+    if to < address as u64 + size as u64 {
+        return (to - address as u64) as u8;
+    }
+    size
+}
+
+// How many octets of a span come before the first that lacks the right: octets outside, regions inside. What a region has of the span is passed at
+// once, and over regions that are apart no region is looked at twice.
 pub fn before(sheet: &[u8], regions: u8, right: Right, address: u32, size: u8) -> u8
+    requires { ⌜ Apart 0 (regionsOf (now sheet) regions) ⌝ }
     ensures { λ r. ⌜ r ≡ beforeOf (regionsOf (now (sheet .entry)) regions) right address size ⌝ }
 {
-    let mut j: u8 = 0;
-    'octets: while j < size {
-        let a = (address as u64) + (j as u64);
-        let mut i: u8 = 0;
+    let end = address as u64 + size as u64;
+    let mut to = address as u64;
+    let mut i = passed(sheet, regions, to);
+    'octets: while to < end {
         while i < regions {
             let region = crate::region_at(sheet, i);
-            if crate::holds(region, a) {
+            i += 1;
+            if crate::holds(region, to) {
                 if crate::gives(region.rights, right) {
-                    j += 1;
+                    to = region.start as u64 + region.length as u64;
                     continue 'octets;
                 }
                 break 'octets;
             }
-            i += 1;
         }
         break 'octets;
     }
-    j
+    short_of(to, address, size)
+}
+
+// Whether every octet of a span has the right; with Mapped, whether the span lies wholly in regions.
+pub fn has(sheet: &[u8], regions: u8, right: Right, address: u32, size: u8) -> bool
+    requires { ⌜ Apart 0 (regionsOf (now sheet) regions) ⌝ }
+    ensures { λ r. ⌜ r ≡ spanHas (regionsOf (now (sheet .entry)) regions) right address size ⌝ }
+{
+    before(sheet, regions, right, address, size) == size
 }

@@ -2,14 +2,13 @@
 use crate::records::Counts;
 use crate::records::Fault;
 use crate::records::Reading;
+use regions::Right;
 ghost use mathlib.Core.Path.{_≡_};
 ghost use Prim.Native.Nat.{_+_, _-_, _≤_};
 ghost use lib.ListN.{length, take, drop};
 ghost use Rattle.octets.specs.Parts.{allZero};
 ghost use Rattle.regions.specs.Apart.{Apart};
 ghost use Rattle.regions.specs.Region.{regionsOf};
-ghost use Rattle.regions.specs.Search.{spanHas};
-ghost use Rattle.regions.specs.declared.Right.the-variants.{Mapped};
 ghost use Rattle.sheet.specs.Kinds.{sizeOf};
 ghost use Rattle.sheet.specs.Reading.{linkOf, regionOf, parameterOf, itemOf, bodyOf, recordOf};
 
@@ -32,20 +31,18 @@ fn read_region(sheet: &[u8], rest: &[u8], so: Counts) -> Reading
     )
 }
 
-// Whether a span lies wholly in the regions read so far: once through them, where the definition searches octet by octet.
-fn mapped(sheet: &[u8], regions: u8, address: u32, size: u8) -> bool
-    requires { ⌜ Apart 0 (regionsOf (now sheet) regions) ⌝ }
-    ensures { λ r. ⌜ r ≡ spanHas (regionsOf (now (sheet .entry)) regions) Mapped address size ⌝ }
-{
-    address as u64 + size as u64 <= regions::search::reach(sheet, regions, address)
-}
-
 fn read_parameter(sheet: &[u8], rest: &[u8], so: Counts) -> Reading
     requires { ⌜ Apart 0 (regionsOf (now sheet) (so .regions)) ⌝ }
     ensures { λ r. ⌜ r ≡ parameterOf (now (sheet .entry)) (now (rest .entry)) so ⌝ }
 {
     let parameter = crate::entries::parameter_from(rest, 0);
-    let inside = mapped(sheet, so.regions, parameter.address, parameter.size);
+    let inside = regions::search::has(
+        sheet,
+        so.regions,
+        Right::Mapped,
+        parameter.address,
+        parameter.size,
+    );
     crate::judging::judge_parameter(parameter, crate::kinds::least_number(sheet, so), inside, so)
 }
 

@@ -26,7 +26,7 @@ use Rattle.regions.specs.Region.{regionsOf}
 use Rattle.regions.specs.Search.{beforeOf, spanHas}
 use Rattle.regions.specs.declared.Right.the-variants.{Mapped}
 use Rattle.regions.proofs.Places.{mapped-spot, span-inside}
-use Rattle.regions.proofs.Reach.{all-before}
+use Rattle.regions.proofs.Spans.{all-before}
 use Rattle.sheet.specs.Entries.{parametersOf, itemsOf, soughtParameter, soughtItem}
 use Rattle.sheet.specs.declared.entries.SoughtItem.{SoughtItem}
 use Rattle.sheet.specs.declared.entries.SoughtParameter.{SoughtParameter}

@@ -1,38 +1,18 @@
 -- `machine::spans::span` meets its contract: mapped, then with the right.
 use Prim.Native.Nat.{ℕ}
-use mathlib.Core.Bool.{true, not}
-use mathlib.Core.List.{List, [], _∷_}
-use mathlib.Core.Logic.{⊎-elim}
-use mathlib.Core.Path.{_≡_, sym, ap, _∙_}
+use mathlib.Core.Bool.{not}
+use mathlib.Core.Path.{sym, ap, _∙_}
 use borrow.Author.Needs.{needs}
-use borrow.Author.Tests.{eqb-true, eq-eqb}
-use Rattle.octets.proofs.Cases.{decided}
 use Rattle.octets.proofs.Pick.{pick-yes, pick-no}
-use Rattle.regions.specs.Region.{regionsOf, holdsOf, givesOf}
-use Rattle.regions.specs.Search.{grantsOf, spanHas}
-use Rattle.regions.specs.declared.Region.{Region}
+use Rattle.regions.specs.Region.{regionsOf}
+use Rattle.regions.specs.Search.{spanHas}
 use Rattle.regions.specs.declared.Right.{Right}
-use Rattle.regions.specs.declared.Right.the-variants.{Mapped}
-use Rattle.regions.proofs.Reach.{all-before, before-all}
+use Rattle.regions.proofs.Spans.{span-mapped}
 use Rattle.machine.specs.Spans.{moved, spanOf}
 use Rattle.machine.specs.declared.words.Effect.{Effect}
 use Rattle.machine.specs.declared.words.Judgement.the-variants.{Accepted}
 use Rattle.machine.proofs.spans.span.Statement.{statement}
 use Rattle.machine.proofs.spans.span.Tie as tie
-
--- an octet that has a right is in a region
-mapped : (rs : List Region) (w : Right) (a : ℕ) → grantsOf rs w a ≡ true → grantsOf rs Mapped a ≡ true
-unfolding grantsOf givesOf
-mapped [] w a e = e
-mapped (r ∷ rs) w a e =
-    ⊎-elim
-    (λ h. pick-yes _ _ h)
-    (λ h. pick-no _ _ h ∙ mapped rs w a (sym (pick-no _ _ h) ∙ e))
-    (decided (holdsOf r a))
-
--- and so is a span
-span-mapped : (rs : List Region) (w : Right) (a n : ℕ) → spanHas rs w a n ≡ true → spanHas rs Mapped a n ≡ true
-span-mapped rs w a n e = eq-eqb _ n (before-all rs Mapped a n (λ x l u. mapped rs w x (all-before rs w a n (eqb-true _ n e) x l u)))
 
 returns : tie.Need-returns
 unfolding spanOf

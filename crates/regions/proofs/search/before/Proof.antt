@@ -1,96 +1,94 @@
--- `regions::search::before` meets its contract. Outside: the j octets passed have the right, and the rest of the span is still to be searched. Inside: no region passed has the octet.
-use Prim.Native.Nat.{ℕ, _≤_, _<_, _-_, _+_}
-use mathlib.Core.Bool.{Bool, true, false}
-use mathlib.Core.Path.{_≡_, refl, sym, ap, subst, _∙_}
-use mathlib.Core.List.{List}
+-- `regions::search::before` meets its contract. Outside and inside the same stands behind the search (Passing); inside the octet stays.
+use Prim.Native.Nat.{ℕ, _-_}
+use mathlib.Core.Logic.{⊎-elim}
+use mathlib.Core.Path.{_≡_, refl, sym, subst, _∙_}
 use native.Mathlib.Omega.{arith}
 use borrow.Author.Needs.{needs}
-use Rattle.regions.specs.Region.{listed, regionAt, regionsOf, givesOf, holdsOf}
-use Rattle.regions.specs.Search.{grantsOf, beforeOf}
-use Rattle.regions.specs.declared.Region.{Region}
-use Rattle.regions.proofs.Listed.{listed-whole}
-use Rattle.regions.proofs.Turns.{grants-here, grants-past, grants-end, before-more, before-stop, before-none, before-end}
+use Rattle.regions.specs.Region.{regionAt}
+use Rattle.regions.proofs.Bounds.{holds-bounds}
+use Rattle.regions.proofs.Passing.{Passing, passing-first, passing-on, passing-jump, passing-ends, passing-stops}
+use Rattle.regions.proofs.Turns.{grants-here, grants-end}
 use Rattle.regions.proofs.search.before.Statement.{statement}
 use Rattle.regions.proofs.search.before.Tie as tie
 
 abbrev Inv-loop : tie.InvT-loop
-Inv-loop sheet regions right address size j₀ a i₀ j i = (j ≡ j₀) × (i ≤ regions) × (grantsOf (regionsOf sheet regions) right a ≡ grantsOf (listed (regionAt sheet) i (regions - i)) right a)
+Inv-loop sheet regions right address size end to₀ i₀ to i = (to ≡ to₀) × Passing (regionAt sheet) regions right address to i
 
 abbrev μ-loop : tie.MeasureT-loop
-μ-loop sheet regions right address size j₀ a i₀ j i = regions - i
+μ-loop sheet regions right address size end to₀ i₀ to i = regions - i
 
 abbrev Inv-octets : tie.InvT-octets
-Inv-octets sheet regions right address size j₀ j =
-    (j ≤ size)
-    × (beforeOf (regionsOf sheet regions) right address size ≡ j + beforeOf (regionsOf sheet regions) right (address + j) (size - j))
+Inv-octets sheet regions right address size end to₀ i₀ to i = Passing (regionAt sheet) regions right address to i
 
 abbrev μ-octets : tie.MeasureT-octets
-μ-octets sheet regions right address size j₀ j = size - j
+μ-octets sheet regions right address size end to₀ i₀ to i = end - to
 
 octets-holds : tie.Need-octets-holds Inv-loop μ-loop Inv-octets μ-octets
 octets-holds c =
-    let a = c .before .args in
-    (omega arith, before-none (regionsOf (a .sheet .now) (a .regions)) (a .right) (a .address) (a .size) 0)
+    let a = c .before .before .args in
+    subst (λ (i : ℕ). Passing (regionAt (a .sheet .now)) (a .regions) (a .right) (a .address) (a .address) i) (sym (c .passed .ensures))
+    (passing-first (regionAt (a .sheet .now)) (a .regions) (a .right) (a .address))
 
 loop-holds : tie.Need-loop-holds Inv-loop μ-loop Inv-octets μ-octets
-loop-holds c =
-    let a = c .before .before .before .args in
-    (refl, omega arith, ap (λ (rs : List Region). grantsOf rs (a .right) (a .address + c .before .octets .j)) (listed-whole (regionAt (a .sheet .now)) (a .regions)))
+loop-holds c = (refl, c .before .octets .inv)
 
 octets-less : tie.Need-octets-less Inv-loop μ-loop Inv-octets μ-octets
-octets-less c = omega arith
+octets-less c =
+    let l = c .before .before .before .before .before .before .before .before .loop in
+    let b = holds-bounds (c .before .before .before .before .before .before .region-at .result) (l .to)
+    (sym (c .before .before .before .before .before .holds .ensures) ∙ c .before .before .before .before .if1 .taken) in
+    omega (arith, l .inv .0)
 
 octets-again : tie.Need-octets-again Inv-loop μ-loop Inv-octets μ-octets
 octets-again c =
-    let a = c .before .before .before .before .before .before .before .before .before .before .args in
-    let o = c .before .before .before .before .before .before .before .before .octets in
-    let l = c .before .before .before .before .before .before .loop in
-    let r = c .before .before .before .before .region-at in
-    let t = l .inv .2 ∙ grants-here (regionAt (a .sheet .now)) (l .i) (a .regions) (r .result) (r .ensures) (c .before .before .before .before .before .loop-test .taken) (a .right) (a .address + o .j)
-    (sym (c .before .before .before .holds .ensures) ∙ c .before .before .if1 .taken) ∙ sym (c .before .gives .ensures) ∙ c .if2 .taken in
-    rw (l .inv .0)
-    (omega arith, o .inv .1 ∙ before-more (regionsOf (a .sheet .now) (a .regions)) (a .right) (a .address) (a .size) (o .j) (c .before .before .before .before .before .before .before .octets-test .taken) t)
+    let a = c .before .before .before .before .before .before .before .before .before .before .before .before .before .args in
+    let l = c .before .before .before .before .before .before .before .before .loop in
+    let r = c .before .before .before .before .before .before .region-at in
+    passing-jump (regionAt (a .sheet .now)) (a .regions) (a .right) (a .address) (l .to) (l .i) (l .inv .1)
+    (c .before .before .before .before .before .before .before .loop-test .taken) (r .result) (r .ensures)
+    (c .before .before .before .before .before .before .before .before .before .before .before .before .before .pre)
+    (sym (c .before .before .before .before .before .holds .ensures) ∙ c .before .before .before .before .if1 .taken)
+    (sym (c .before .before .before .gives .ensures) ∙ c .before .before .if2 .taken)
 
 loop-less : tie.Need-loop-less Inv-loop μ-loop Inv-octets μ-octets
 loop-less c = omega arith
 
 loop-again : tie.Need-loop-again Inv-loop μ-loop Inv-octets μ-octets
 loop-again c =
-    let a = c .before .before .before .before .before .before .before .before .args in
+    let a = c .before .before .before .before .before .before .before .before .before .args in
     let l = c .before .before .before .before .loop in
     let r = c .before .before .region-at in (
       l .inv .0,
-      omega arith,
-      l .inv .2 ∙ grants-past (regionAt (a .sheet .now)) (l .i) (a .regions) (r .result) (r .ensures) (c .before .before .before .loop-test .taken) (a .right) (a .address + c .before .before .before .before .before .before .octets .j)
-          (sym (c .before .holds .ensures) ∙ c .if1 .left),
+      passing-on (regionAt (a .sheet .now)) (a .regions) (a .right) (a .address) (l .to) (l .i) (l .inv .1) (c .before .before .before .loop-test .taken)
+          (r .result) (r .ensures) (sym (c .before .holds .ensures) ∙ c .if1 .left),
     )
 
 returns : tie.Need-returns Inv-loop μ-loop Inv-octets μ-octets
 returns c =
-    let a = c .before .before .before .args in
-    let o = c .before .octets in
-    sym (o .inv .1 ∙ before-end (regionsOf (a .sheet .now) (a .regions)) (a .right) (a .address) (a .size) (o .j) (c .octets-test .left))
-
-returns-2 : tie.Need-returns-2 Inv-loop μ-loop Inv-octets μ-octets
-returns-2 c =
-    let a = c .before .before .before .before .before .before .before .before .before .before .args in
-    let o = c .before .before .before .before .before .before .before .before .octets in
-    let l = c .before .before .before .before .before .before .loop in
-    let r = c .before .before .before .before .region-at in
-    let t = l .inv .2 ∙ grants-here (regionAt (a .sheet .now)) (l .i) (a .regions) (r .result) (r .ensures) (c .before .before .before .before .before .loop-test .taken) (a .right) (a .address + o .j)
-    (sym (c .before .before .before .holds .ensures) ∙ c .before .before .if1 .taken) ∙ sym (c .before .gives .ensures) ∙ c .if2 .left in
-    l .inv .0 ∙ sym (o .inv .1 ∙ before-stop (regionsOf (a .sheet .now) (a .regions)) (a .right) (a .address) (a .size) (o .j) (c .before .before .before .before .before .before .before .octets-test .taken) t)
-
-returns-3 : tie.Need-returns-3 Inv-loop μ-loop Inv-octets μ-octets
-returns-3 c =
     let a = c .before .before .before .before .before .args in
-    let o = c .before .before .before .octets in
-    let l = c .before .loop in
-    let t = l .inv .2 ∙ grants-end (regionAt (a .sheet .now)) (l .i) (a .regions) (c .loop-test .left) (a .right) (a .address + o .j) in
-    l .inv .0 ∙ sym (o .inv .1 ∙ before-stop (regionsOf (a .sheet .now) (a .regions)) (a .right) (a .address) (a .size) (o .j) (c .before .before .octets-test .taken) t)
+    let o = c .before .before .octets in
+    let f = regionAt (a .sheet .now) in
+    c .short-of .ensures
+    ∙ ⊎-elim
+    (λ w. rw (w .1) (passing-ends f (a .regions) (a .right) (a .address) (o .to) (o .i) (o .inv) (a .size) (w .0 .left)))
+    (λ v.
+    ⊎-elim
+    (λ w.
+    let l = w .1 in
+    let lacks = grants-here f (l .i) (a .regions) (w .3 .result) (w .3 .ensures) (w .2 .taken) (a .right) (l .to) (sym (w .4 .ensures) ∙ w .5 .taken)
+    ∙ sym (w .6 .ensures) ∙ w .7 .left in
+    rw (w .8)
+    (passing-stops f (a .regions) (a .right) (a .address) (l .to) (l .i) (l .inv .1) (a .size) (rw (l .inv .0) (w .0 .taken)) lacks))
+    (λ w.
+    let l = w .1 in
+    rw (w .3)
+    (passing-stops f (a .regions) (a .right) (a .address) (l .to) (l .i) (l .inv .1) (a .size) (rw (l .inv .0) (w .0 .taken))
+    (grants-end f (l .i) (a .regions) (w .2 .left) (a .right) (l .to))))
+    v)
+    (c .before .octets-test .came)
 
 pub before-spec : {M : Type 1} → statement M
 before-spec =
-    tie.close (tie.spec Inv-loop μ-loop Inv-octets μ-octets octets-holds (λ c. search needs) (λ c. search needs) loop-holds
-    (λ c κs. search needs) (λ c κs. search needs) (λ c κs. search needs) (λ c. search needs) octets-less octets-again (λ c. search needs)
-    loop-less loop-again returns returns-2 returns-3)
+    tie.close (tie.spec Inv-loop μ-loop Inv-octets μ-octets (λ c. search needs) (λ c κs. search needs) octets-holds loop-holds
+    (λ c κs. search needs) (λ c. search needs) (λ c κs. search needs) (λ c κs. search needs) (λ c. search needs) (λ c. search needs)
+    (λ c. search needs) octets-less octets-again loop-less loop-again (λ c κs. search needs) returns)

@@ -5,13 +5,19 @@ use borrow.Author.Needs.{needs}
 use lib.ListN.{length}
 use Rattle.link.proofs.Back.{written, read-valid}
 use Rattle.machine.specs.Outcomes.{outcomeOf}
-use Rattle.sheet.proofs.Valid.{valid-sheet, length-least}
+use Rattle.sheet.proofs.Valid.{valid-sheet, valid-apart, length-least}
 use Rattle.slave.specs.Answers.{told}
 use Rattle.slave.specs.Exchange.{left, leftOf, exchanged}
 use Rattle.slave.proofs.Built.{built-reply}
 use Rattle.slave.proofs.Fits.{ready-fits, fits-stored}
 use Rattle.slave.proofs.exchanging.perform.Statement.{statement}
 use Rattle.slave.proofs.exchanging.perform.Tie as tie
+
+outcome-requires : tie.Need-outcome-requires
+outcome-requires c κs =
+    let a = c .before .before .before .before .before .before .args in
+    let p = c .before .before .before .before .before .before .pre in
+    valid-apart (a .sheet .now) (a .layout) (valid-sheet (a .sheet .now) (a .layout) (p .valid))
 
 head-requires : tie.Need-head-requires
 head-requires c κs =
@@ -49,5 +55,5 @@ returns c =
 
 pub perform-spec : {M : Type 1} → statement M
 perform-spec =
-    tie.close (tie.spec (λ c κs. search needs) (λ c κs. search needs) head-requires fill-body-requires store-requires (λ c κs. search needs)
+    tie.close (tie.spec (λ c κs. search needs) outcome-requires head-requires fill-body-requires store-requires (λ c κs. search needs)
     (λ c. search needs) (λ c. search needs) (λ c. search needs) returns)
