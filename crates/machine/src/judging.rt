@@ -12,8 +12,7 @@ use sheet::entries::SoughtParameter;
 use sheet::walk::Layout;
 ghost use mathlib.Core.Path.{_≡_};
 ghost use Prim.Native.Nat.{_-_};
-ghost use Rattle.regions.specs.Apart.{Apart};
-ghost use Rattle.regions.specs.Region.{regionsOf};
+ghost use Rattle.regions.specs.Apart.{Laid};
 ghost use Rattle.machine.specs.Judging.{parameterOf, itemOf, alarmsOf, clearOf, elementOf, memoryOf, dataOf, judgeOf};
 
 // The octets behind the first `taken` of a PDU; none where it is shorter.
@@ -28,7 +27,7 @@ fn room(l: u8, taken: u8) -> u8
 
 // PRM_RD and PRM_WR.
 pub fn parameter(writes: bool, sheet: &[u8], layout: Layout, st: LinkState, c: Command) -> Judgement
-    requires { ⌜ Apart 0 (regionsOf (now sheet) (layout .regions)) ⌝ }
+    requires { ⌜ Laid (now sheet) (layout .regions) ⌝ }
     ensures { λ r. ⌜ r ≡ parameterOf writes (now (sheet .entry)) layout st c ⌝ }
 {
     let found = sheet::entries::find_parameter(sheet, layout.regions, layout.parameters, c.number);
@@ -128,7 +127,7 @@ fn element(mode: u8) -> u8
 
 // MEM_RD and MEM_WR: count times element is taken at 32 bits, where it cannot wrap.
 pub fn memory(writes: bool, sheet: &[u8], layout: Layout, st: LinkState, c: Command) -> Judgement
-    requires { ⌜ Apart 0 (regionsOf (now sheet) (layout .regions)) ⌝ }
+    requires { ⌜ Laid (now sheet) (layout .regions) ⌝ }
     ensures { λ r. ⌜ r ≡ memoryOf writes (now (sheet .entry)) layout st c ⌝ }
 {
     let width = element(c.mode);
@@ -155,7 +154,7 @@ pub fn memory(writes: bool, sheet: &[u8], layout: Layout, st: LinkState, c: Comm
 
 // Checks 4 and 5 of a known code.
 pub fn data_checks(sheet: &[u8], layout: Layout, st: LinkState, c: Command) -> Judgement
-    requires { ⌜ Apart 0 (regionsOf (now sheet) (layout .regions)) ⌝ }
+    requires { ⌜ Laid (now sheet) (layout .regions) ⌝ }
     ensures { λ r. ⌜ r ≡ dataOf (now (sheet .entry)) layout st c ⌝ }
 {
     let code = c.code;
@@ -176,7 +175,7 @@ pub fn data_checks(sheet: &[u8], layout: Layout, st: LinkState, c: Command) -> J
 
 // Checks 2 to 5.
 pub fn judge(sheet: &[u8], layout: Layout, st: LinkState, c: Command) -> Judgement
-    requires { ⌜ Apart 0 (regionsOf (now sheet) (layout .regions)) ⌝ }
+    requires { ⌜ Laid (now sheet) (layout .regions) ⌝ }
     ensures { λ r. ⌜ r ≡ judgeOf (now (sheet .entry)) layout st c ⌝ }
 {
     if !crate::codes::is_known(c.code) {

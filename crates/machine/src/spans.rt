@@ -8,7 +8,7 @@ use link::state::LinkState;
 use regions::Right;
 use regions::search::Spot;
 ghost use mathlib.Core.Path.{_≡_};
-ghost use Rattle.regions.specs.Apart.{Apart};
+ghost use Rattle.regions.specs.Apart.{Laid};
 ghost use Rattle.regions.specs.Region.{regionsOf};
 ghost use Rattle.machine.specs.Spans.{rightOf, moved, spanPlace, spanOf};
 
@@ -55,7 +55,7 @@ pub fn span(
     size: u8,
     st: LinkState,
 ) -> Judgement
-    requires { ⌜ Apart 0 (regionsOf (now sheet) regions) ⌝ }
+    requires { ⌜ Laid (now sheet) regions ⌝ }
     ensures { λ r. ⌜ r ≡ spanOf writes (regionsOf (now (sheet .entry)) regions) by address size st ⌝ }
 {
     if regions::search::has(sheet, regions, right_of(writes, st.link), address, size) {

@@ -2,14 +2,14 @@
 --     copied-more                           a copy that has stored i octets, and stores one more
 --     copied-source-end, copied-part-end    a copy that has gone as far as either list goes
 --     filled-behind                         a part from a place on, lent and filled, is laid over the whole
---     zero-more, zero-stop, zero-end        the turns of a search for an octet that is not 0
-use mathlib.Core.Bool.{true, false}
+--     zero-next, zero-end                   the turns of a search for an octet that is not 0
+use mathlib.Core.Bool.{true, _&&_}
 use mathlib.Core.Path.{_≡_, sym, ap}
 use mathlib.Core.List.{List, [], _++_, append-nil}
 use Prim.Native.Nat.{ℕ, suc, _+_, _-_, _<_, _≤_}
 use native.Mathlib.Numerals.{add-one}
 use native.Mathlib.Omega.{arith}
-use borrow.Author.Tests.{ne-eqb}
+use lib.Dec.{eqb}
 use lib.ListN.{length, getD, take, drop, set, length-drop, drop-of-length-le}
 use lib.Seq.{take-suc, drop-cons, append-snoc, set-at, length-take-le, take-all, drop-drop}
 use Rattle.octets.specs.Parts.{copied, putAt, allZero}
@@ -36,13 +36,9 @@ copied-part-end d s i hd hs he =
     rw (e, drop-of-length-le d {i = length d} (omega arith), drop-of-length-le d {i = length s} hds)
 
 module _ (s : List ℕ) (i : ℕ) where
-  pub zero-more : i < length s → getD s i 0 ≡ 0 → allZero (drop i s) ≡ allZero (drop (i + 1) s)
+  pub zero-next : i < length s → allZero (drop i s) ≡ eqb (getD s i 0) 0 && allZero (drop (i + 1) s)
   unfolding allZero
-  zero-more h e = rw (add-one, drop-cons s i 0 h, e)
-
-  pub zero-stop : i < length s → (getD s i 0 ≡ 0 → ⊥) → allZero (drop i s) ≡ false
-  unfolding allZero
-  zero-stop h n = rw (drop-cons s i 0 h, ne-eqb (getD s i 0) 0 n)
+  zero-next h = rw (add-one, drop-cons s i 0 h)
 
   pub zero-end : length s ≤ i → allZero (drop i s) ≡ true
   unfolding allZero

@@ -34,7 +34,10 @@ pub fn le2_at(s: &[u8], i: u32) -> u16
     ensures { λ r. ⌜ r ≡ le2At (now (s .entry)) i ⌝ }
 {
     let at = i as usize;
-    le2(octet(s, at), octet(s, at + 1))
+    if s.len() < at + 2 {
+        return le2(octet(s, at), octet(s, at + 1));
+    }
+    le2(s[at], s[at + 1])
 }
 
 // The number of 4 octets at `i`; octets past the end count as 0.
@@ -42,26 +45,28 @@ pub fn le4_at(s: &[u8], i: u32) -> u32
     ensures { λ r. ⌜ r ≡ le4At (now (s .entry)) i ⌝ }
 {
     let at = i as usize;
-    le4(
-        octet(s, at),
-        octet(s, at + 1),
-        octet(s, at + 2),
-        octet(s, at + 3),
-    )
+    if s.len() < at + 4 {
+        return le4(
+            octet(s, at),
+            octet(s, at + 1),
+            octet(s, at + 2),
+            octet(s, at + 3),
+        );
+    }
+    le4(s[at], s[at + 1], s[at + 2], s[at + 3])
 }
 
-// Whether every octet of a part is 0.
+// Whether every octet of a part is 0. It goes through them all, since a loop that is not left early is compiled into steps of many octets.
 pub fn zeros(s: &[u8]) -> bool
     ensures { λ r. ⌜ r ≡ allZero (now (s .entry)) ⌝ }
 {
+    let mut so_far = true;
     let mut i = 0;
     while i < s.len() {
-        if s[i] != 0 {
-            return false;
-        }
+        so_far = so_far & (s[i] == 0);
         i += 1;
     }
-    true
+    so_far
 }
 
 // Every octet of a lent part becomes `v`.

@@ -3,7 +3,7 @@ pub mod Apart
 pub mod Bounds
 pub mod Listed
 pub mod Turns
-pub mod Passed
 pub mod Spans
+pub mod Passed
 pub mod Passing
 pub mod Places

@@ -2,7 +2,6 @@
 --     passed-is        the number before which all end there, and at which one does not
 --     passed-ends      those before it end there
 --     passed-most      it is no more than there are
---     ends-from, ends-to   one region's end tells of all behind it, or of all before it, where they are apart
 use mathlib.Core.Logic.{⊎-elim}
 use mathlib.Core.Path.{_≡_, refl, ap, _∙_}
 use Prim.Native.Nat.{ℕ, zero, suc, _+_, _<_, _≤_}
@@ -11,11 +10,9 @@ use native.Mathlib.Omega.{arith}
 use borrow.Author.Tests.{le-leb, lt-leb}
 use Rattle.octets.proofs.Cases.{lt-or-le, eq-or-ne}
 use Rattle.octets.proofs.Pick.{pick-yes, pick-no, pick-both}
-use Rattle.regions.specs.Apart.{Apart}
 use Rattle.regions.specs.Passed.{passedOf}
 use Rattle.regions.specs.Region.{listed}
 use Rattle.regions.specs.declared.Region.{Region}
-use Rattle.regions.proofs.Apart.{apart-rises}
 
 module _ (f : ℕ → Region) (a : ℕ) where
   counted : (k m p : ℕ) → p ≤ m → ((j : ℕ) → k ≤ j → j < k + p → f j .start + f j .length ≤ a)
@@ -61,19 +58,3 @@ module _ (f : ℕ → Region) (a : ℕ) where
 
   pub passed-most : (n : ℕ) → passedOf (listed f 0 n) a ≤ n
   passed-most n = most 0 n
-
--- over regions that are apart, the middle one decides for one half
-module _ (f : ℕ → Region) (a n : ℕ) (d : Apart 0 (listed f 0 n)) (i : ℕ) (h : i < n) where
-  pub ends-from : a < f i .start + f i .length → (j : ℕ) → i ≤ j → j < n → a < f j .start + f j .length
-  ends-from u j l k =
-      ⊎-elim
-      (λ (e : j ≡ i). rw e u)
-      (λ (e : j ≡ i → ⊥). let r = apart-rises f 0 n 0 d i j (omega arith) (omega arith) (omega arith) in omega arith)
-      (eq-or-ne j i)
-
-  pub ends-to : f i .start + f i .length ≤ a → (j : ℕ) → j < i + 1 → f j .start + f j .length ≤ a
-  ends-to u j l =
-      ⊎-elim
-      (λ (e : j ≡ i). rw e u)
-      (λ (e : j ≡ i → ⊥). let r = apart-rises f 0 n 0 d j i (omega arith) (omega arith) (omega arith) in omega arith)
-      (eq-or-ne j i)

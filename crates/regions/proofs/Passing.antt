@@ -4,26 +4,31 @@
 --     passing-on       a region that has the octet not is passed
 --     passing-ends     where it comes to the span's end, no octet lacks the right
 --     passing-stops    where it stops before, as many octets come before as were passed
+--     passing-later    where only regions are asked for, one that starts at or before the octet is passed to its end if that is later
+--     passing-gap      no region from one that starts behind the octet on has it
+--     passing-whole, passing-short   whether the span lies wholly in regions: where its end is reached, and where the octet has none
 use mathlib.Core.Bool.{true, false}
 use mathlib.Core.Logic.{⊎-elim}
-use mathlib.Core.Path.{_≡_, sym, ap, subst, _∙_}
+use mathlib.Core.Path.{_≡_, refl, sym, ap, subst, _∙_}
 use Prim.Native.Nat.{ℕ, _+_, _-_, _<_, _≤_}
 use native.Mathlib.Omega.{arith}
-use lib.Dec.{ltb}
+use borrow.Author.Tests.{le-leb, lt-leb, eq-eqb, ne-eqb}
+use lib.Dec.{ltb, leb}
 use Rattle.octets.specs.Pick.{pick}
 use Rattle.octets.proofs.Cases.{lt-or-le, eq-or-ne}
 use Rattle.octets.proofs.Pick.{pick-lt, pick-ge}
 use Rattle.regions.specs.Apart.{Apart}
 use Rattle.regions.specs.Passed.{passedOf}
 use Rattle.regions.specs.Region.{listed, holdsOf, givesOf}
-use Rattle.regions.specs.Search.{grantsOf, beforeOf}
+use Rattle.regions.specs.Search.{grantsOf, beforeOf, spanHas}
 use Rattle.regions.specs.declared.Region.{Region}
 use Rattle.regions.specs.declared.Right.{Right}
+use Rattle.regions.specs.declared.Right.the-variants.{Mapped}
 use Rattle.regions.proofs.Apart.{apart-rises}
-use Rattle.regions.proofs.Bounds.{holds-bounds, bounds-hold}
+use Rattle.regions.proofs.Bounds.{holds-bounds, bounds-hold, past-misses}
 use Rattle.regions.proofs.Passed.{passed-ends, passed-most}
 use Rattle.regions.proofs.Spans.{before-all, before-at}
-use Rattle.regions.proofs.Turns.{grants-here, grants-past, grants-from}
+use Rattle.regions.proofs.Turns.{grants-here, grants-past, grants-from, grants-none}
 
 -- the octets from `a` up to `to` have the right, and of the octet at `to` the regions from the i-th on decide
 pub record Passing (f : ℕ → Region) (n : ℕ) (w : Right) (a to i : ℕ) : Type 0 where
@@ -96,3 +101,35 @@ module _ (f : ℕ → Region) (n : ℕ) (w : Right) (a : ℕ) where
           ∙ sym
           (before-at (listed f 0 n) w a size (to - a) (omega arith) (λ x k u. p .granted x k (omega arith))
           (ap (grantsOf (listed f 0 n) w) (sym e) ∙ p .decides ∙ lacks))
+
+      pub passing-whole : a + size ≤ to → leb (a + size) to ≡ spanHas (listed f 0 n) w a size
+      passing-whole h = le-leb (a + size) to h ∙ sym (eq-eqb _ size (before-all (listed f 0 n) w a size (λ x l u. p .granted x l (omega arith))))
+
+      pub passing-short : grantsOf (listed f i (n - i)) w to ≡ false → leb (a + size) to ≡ spanHas (listed f 0 n) w a size
+      passing-short lacks =
+          ⊎-elim
+          (λ (h : to < a + size).
+          let l = p .from in
+          let b = sym (passing-stops h lacks) ∙ pick-lt _ _ h in
+          lt-leb (a + size) to h ∙ sym (ne-eqb _ size (λ e. let z : ⊥ = omega arith in z)))
+          (λ (h : a + size ≤ to). passing-whole h)
+          (lt-or-le to (a + size))
+
+module _ (f : ℕ → Region) (n : ℕ) (d : Apart 0 (listed f 0 n)) (a to i : ℕ) (h : i < n) (r : Region) (e : r ≡ f i) where
+  pub passing-later : Passing f n Mapped a to i → r .start ≤ to → Passing f n Mapped a (pick (ltb to (r .start + r .length)) (r .start + r .length) to) (i + 1)
+  unfolding givesOf
+  passing-later p l =
+      ⊎-elim
+      (λ (u : to < r .start + r .length). rw (pick-lt (r .start + r .length) to u) (passing-jump f n Mapped a to i p h r e d (bounds-hold r to l u) refl))
+      (λ (u : r .start + r .length ≤ to). rw (pick-ge (r .start + r .length) to u) (passing-on f n Mapped a to i p h r e (past-misses r to u)))
+      (lt-or-le to (r .start + r .length))
+
+  pub passing-gap : (w : Right) → to < r .start → grantsOf (listed f i (n - i)) w to ≡ false
+  passing-gap w l =
+      grants-none f w to i (n - i)
+      (λ j k u.
+      let s = subst (λ (q : Region). to < q .start) e l in
+      ⊎-elim
+      (λ (q : j ≡ i). rw q s)
+      (λ (q : j ≡ i → ⊥). let v = apart-rises f 0 n 0 d i j (omega arith) (omega arith) (omega arith) in omega arith)
+      (eq-or-ne j i))

@@ -3,6 +3,7 @@ use mathlib.Core.Bool.{true, false}
 use mathlib.Core.Path.{_≡_, refl, ap, _∙_}
 use mathlib.Core.List.{List}
 use Prim.Native.Nat.{ℕ, zero, suc, _+_, _-_, _<_, _≤_}
+use native.Mathlib.Nat.{le-refl}
 use native.Mathlib.Omega.{arith}
 use Rattle.octets.proofs.Pick.{pick-yes, pick-no}
 use Rattle.regions.specs.Region.{listed, holdsOf, givesOf}
@@ -10,7 +11,7 @@ use Rattle.regions.specs.Search.{spotOf, grantsOf}
 use Rattle.regions.specs.declared.Region.{Region}
 use Rattle.regions.specs.declared.Right.{Right}
 use Rattle.regions.specs.declared.search.Spot.the-variants.{At, Nowhere}
-use Rattle.regions.proofs.Bounds.{past-misses}
+use Rattle.regions.proofs.Bounds.{past-misses, below-misses}
 use Rattle.regions.proofs.Listed.{listed-next, listed-end, listed-whole}
 
 module _ (f : ℕ → Region) (i n : ℕ) (r : Region) (e : r ≡ f i) (h : i < n) where
@@ -50,3 +51,11 @@ grants-from f n (suc i) h w a ends =
     grants-from f n i (omega arith) w a (λ j l. ends j (omega arith))
     ∙ grants-past f i n (f i) refl (omega arith) w a (past-misses (f i) a (ends i (omega arith)))
     ∙ ap (λ (x : ℕ). grantsOf (listed f x (n - x)) w a) e
+
+-- regions that start behind an address have it not
+pub grants-none : (f : ℕ → Region) (w : Right) (a k m : ℕ) → ((j : ℕ) → k ≤ j → j < k + m → a < f j .start) → grantsOf (listed f k m) w a ≡ false
+unfolding listed grantsOf
+grants-none f w a k zero starts = refl
+grants-none f w a k (suc m) starts =
+    pick-no _ _ (below-misses (f k) a (starts k (le-refl k) (omega arith)))
+    ∙ grants-none f w a (suc k) m (λ j l u. starts j (omega arith) (omega arith))

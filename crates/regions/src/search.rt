@@ -4,10 +4,11 @@ ghost use mathlib.Core.Path.{_≡_};
 ghost use Prim.Native.Nat.{_+_, _-_};
 ghost use lib.Dec.{ltb};
 ghost use Rattle.octets.specs.Pick.{pick};
-ghost use Rattle.regions.specs.Apart.{Apart};
+ghost use Rattle.regions.specs.Apart.{Laid};
 ghost use Rattle.regions.specs.Passed.{passedOf};
 ghost use Rattle.regions.specs.Region.{regionsOf};
 ghost use Rattle.regions.specs.Search.{spotOf, beforeOf, spanHas};
+ghost use Rattle.regions.specs.declared.Right.the-variants.{Mapped};
 
 // Where an octet stands: at a memory place, with its region's rights, or in no region.
 pub enum Spot {
@@ -32,23 +33,51 @@ pub fn spot_at(sheet: &[u8], regions: u8, address: u64) -> Spot
     Spot::Nowhere
 }
 
-// How many regions, from the first on, end at or before an address: they are halved until one is left.
-pub fn passed(sheet: &[u8], regions: u8, address: u64) -> u8
-    requires { ⌜ Apart 0 (regionsOf (now sheet) regions) ⌝ }
+// How many regions, from the first on, end at or before an address.
+fn passed(sheet: &[u8], regions: u8, address: u64) -> u8
+    requires { ⌜ Laid (now sheet) regions ⌝ }
     ensures { λ r. ⌜ r ≡ passedOf (regionsOf (now (sheet .entry)) regions) address ⌝ }
 {
-    let mut low: u8 = 0;
-    let mut high: u8 = regions;
-    while low < high {
-        let middle = low + (high - low) / 2;
-        let region = crate::region_at(sheet, middle);
+    let mut i: u8 = 0;
+    while i < regions {
+        let region = crate::region_in(sheet, i);
         if address < region.start as u64 + region.length as u64 {
-            high = middle;
-        } else {
-            low = middle + 1;
+            return i;
         }
+        i += 1;
     }
-    low
+    i
+}
+
+fn later(a: u64, b: u64) -> u64
+    ensures { λ r. ⌜ r ≡ pick (ltb a b) b a ⌝ }
+{
+    if a < b {
+        return b;
+    }
+    a
+}
+
+// Whether a span lies wholly in regions: once through them, as far as the span or they go on without a gap.
+pub fn covers(sheet: &[u8], regions: u8, address: u32, size: u8) -> bool
+    requires { ⌜ Laid (now sheet) regions ⌝ }
+    ensures { λ r. ⌜ r ≡ spanHas (regionsOf (now (sheet .entry)) regions) Mapped address size ⌝ }
+{
+    let end = address as u64 + size as u64;
+    let mut to = address as u64;
+    let mut i = passed(sheet, regions, to);
+    while i < regions {
+        let region = crate::region_in(sheet, i);
+        if to < region.start as u64 {
+            break;
+        }
+        to = later(to, region.start as u64 + region.length as u64);
+        if end <= to {
+            break;
+        }
+        i += 1;
+    }
+    end <= to
 }
 
 // How many of a span's octets stand before an address.
@@ -67,7 +96,7 @@ fn short_of(to: u64, address: u32, size: u8) -> u8
 // How many octets of a span come before the first that lacks the right: octets outside, regions inside. What a region has of the span is passed at
 // once, and over regions that are apart no region is looked at twice.
 pub fn before(sheet: &[u8], regions: u8, right: Right, address: u32, size: u8) -> u8
-    requires { ⌜ Apart 0 (regionsOf (now sheet) regions) ⌝ }
+    requires { ⌜ Laid (now sheet) regions ⌝ }
     ensures { λ r. ⌜ r ≡ beforeOf (regionsOf (now (sheet .entry)) regions) right address size ⌝ }
 {
     let end = address as u64 + size as u64;
@@ -75,7 +104,7 @@ pub fn before(sheet: &[u8], regions: u8, right: Right, address: u32, size: u8) -
     let mut i = passed(sheet, regions, to);
     'octets: while to < end {
         while i < regions {
-            let region = crate::region_at(sheet, i);
+            let region = crate::region_in(sheet, i);
             i += 1;
             if crate::holds(region, to) {
                 if crate::gives(region.rights, right) {
@@ -90,9 +119,9 @@ pub fn before(sheet: &[u8], regions: u8, right: Right, address: u32, size: u8) -
     short_of(to, address, size)
 }
 
-// Whether every octet of a span has the right; with Mapped, whether the span lies wholly in regions.
+// Whether every octet of a span has the right.
 pub fn has(sheet: &[u8], regions: u8, right: Right, address: u32, size: u8) -> bool
-    requires { ⌜ Apart 0 (regionsOf (now sheet) regions) ⌝ }
+    requires { ⌜ Laid (now sheet) regions ⌝ }
     ensures { λ r. ⌜ r ≡ spanHas (regionsOf (now (sheet .entry)) regions) right address size ⌝ }
 {
     before(sheet, regions, right, address, size) == size

@@ -10,7 +10,7 @@ use lib.Dec.{eqb, ltb}
 use lib.ListN.{length, getD, drop}
 use Rattle.octets.proofs.Cases.{eq-or-ne}
 use Rattle.octets.proofs.Pick.{passed, pick-eq, pick-ne, pick-key}
-use Rattle.regions.specs.Apart.{Apart}
+use Rattle.regions.specs.Apart.{Apart, Laid}
 use Rattle.regions.specs.Region.{regionAt, regionsOf}
 use Rattle.regions.proofs.Apart.{apart-listed}
 use Rattle.sheet.specs.Kinds.{isLength, sizeOf, misplacedOf}
@@ -29,6 +29,17 @@ sound-apart s at so ok =
     (λ i l u. ok .regions-fine i (omega arith) .some)
     (λ i l u. ok .regions-rise i (omega arith))
     (λ h. omega arith)
+
+-- and their records are in the sheet
+pub sound-laid : (s : List ℕ) (at : ℕ) (so : Counts) → Sound s at so → at ≤ length s → Laid s (so .regions)
+sound-laid s at so ok h = record {
+  inside =
+      ⊎-elim
+      (λ z. let e : so .regions ≡ 0 = ap (λ (c : Counts). c .regions) (z .1) in omega arith)
+      (λ z. omega (arith, z .0))
+      (ok .begun);
+  apart = sound-apart s at so ok;
+}
 
 or-false : (a b : Bool) → a || b ≡ false → (a ≡ false) × (b ≡ false)
 or-false true b e = absurd (true≢false e)

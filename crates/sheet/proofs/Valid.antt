@@ -1,6 +1,7 @@
 -- The laws of a valid sheet, which everything above uses.
 --     valid-sheet       what holds of a sheet with a layout
 --     valid-apart       its regions are ordered and apart
+--     valid-laid        and in the sheet
 --     valid-parameter   a parameter that was found has a size in range, and its span lies wholly in regions
 --     valid-item        an ID item that was found has a length in range
 --     item-inside       and its octets stand inside the sheet
@@ -17,7 +18,7 @@ use lib.Dec.{eqb}
 use lib.ListN.{length, getD, drop}
 use Rattle.octets.proofs.Cases.{eq-or-ne, lt-or-le}
 use Rattle.octets.proofs.Pick.{passed, pick-eq, pick-ne}
-use Rattle.regions.specs.Apart.{Apart}
+use Rattle.regions.specs.Apart.{Apart, Laid}
 use Rattle.regions.specs.Region.{regionsOf}
 use Rattle.sheet.specs.Entries.{parameterAt, parametersOf, itemFrom, itemAt, itemsOf, soughtParameter, soughtItem}
 use Rattle.sheet.specs.Kinds.{isLength, misplacedOf}
@@ -36,7 +37,7 @@ use Rattle.sheet.specs.declared.walk.Layout.{Layout}
 use Rattle.sheet.specs.declared.walk.Verdict.{Verdict}
 use Rattle.sheet.specs.declared.walk.Verdict.the-variants.{Valid, Faulty}
 use Rattle.sheet.proofs.Judged.{bad-record}
-use Rattle.sheet.proofs.Onward.{sound-apart, record-sound}
+use Rattle.sheet.proofs.Onward.{sound-apart, sound-laid, record-sound}
 use Rattle.sheet.proofs.Sought.{sought-keeps}
 use Rattle.sheet.proofs.Steps.{start-sound}
 use Rattle.sheet.proofs.Walked.{standing-behind}
@@ -135,6 +136,9 @@ five-least l e =
 module _ (s : List ℕ) (lay : Layout) (ok : ValidSheet s lay) where
   pub valid-apart : Apart 0 (regionsOf s (lay .regions))
   valid-apart = sound-apart s (behind (countsOf lay)) (countsOf lay) (ok .sound)
+
+  pub valid-laid : Laid s (lay .regions)
+  valid-laid = sound-laid s (behind (countsOf lay)) (countsOf lay) (ok .sound) (omega (arith, ok .octets))
 
   pub valid-parameter : (n : ℕ) (p : Parameter) → soughtParameter (parametersOf s (lay .regions) (lay .parameters)) n ≡ SoughtParameter.Found p
       → FineParameter s (lay .regions) p

@@ -30,10 +30,12 @@ pub fn misplaced(first: bool, kind: u8, so: Counts) -> bool
     if first {
         return kind != 1;
     }
-    (kind == 1)
-        | ((kind == 2) & (0 < so.parameters))
-        | ((kind == 2) & (0 < so.items))
-        | ((kind == 3) & (0 < so.items))
+    match kind {
+        1 => true,
+        2 => (0 < so.parameters) | (0 < so.items),
+        3 => 0 < so.items,
+        _ => false,
+    }
 }
 
 // One past the last address of the region read last; 0 where none was read.

@@ -2,13 +2,11 @@
 use crate::records::Counts;
 use crate::records::Fault;
 use crate::records::Reading;
-use regions::Right;
 ghost use mathlib.Core.Path.{_≡_};
 ghost use Prim.Native.Nat.{_+_, _-_, _≤_};
 ghost use lib.ListN.{length, take, drop};
 ghost use Rattle.octets.specs.Parts.{allZero};
-ghost use Rattle.regions.specs.Apart.{Apart};
-ghost use Rattle.regions.specs.Region.{regionsOf};
+ghost use Rattle.regions.specs.Apart.{Laid};
 ghost use Rattle.sheet.specs.Kinds.{sizeOf};
 ghost use Rattle.sheet.specs.Reading.{linkOf, regionOf, parameterOf, itemOf, bodyOf, recordOf};
 
@@ -32,17 +30,11 @@ fn read_region(sheet: &[u8], rest: &[u8], so: Counts) -> Reading
 }
 
 fn read_parameter(sheet: &[u8], rest: &[u8], so: Counts) -> Reading
-    requires { ⌜ Apart 0 (regionsOf (now sheet) (so .regions)) ⌝ }
+    requires { ⌜ Laid (now sheet) (so .regions) ⌝ }
     ensures { λ r. ⌜ r ≡ parameterOf (now (sheet .entry)) (now (rest .entry)) so ⌝ }
 {
     let parameter = crate::entries::parameter_from(rest, 0);
-    let inside = regions::search::has(
-        sheet,
-        so.regions,
-        Right::Mapped,
-        parameter.address,
-        parameter.size,
-    );
+    let inside = regions::search::covers(sheet, so.regions, parameter.address, parameter.size);
     crate::judging::judge_parameter(parameter, crate::kinds::least_number(sheet, so), inside, so)
 }
 
@@ -69,7 +61,7 @@ fn read_item(sheet: &[u8], rest: &[u8], so: Counts) -> Reading
 
 // A whole record of a known kind in its place.
 fn read_body(kind: u8, sheet: &[u8], rest: &[u8], so: Counts) -> Reading
-    requires { ⌜ (sizeOf kind ≤ length (now rest)) × Apart 0 (regionsOf (now sheet) (so .regions)) ⌝ }
+    requires { ⌜ (sizeOf kind ≤ length (now rest)) × Laid (now sheet) (so .regions) ⌝ }
     ensures { λ r. ⌜ r ≡ bodyOf kind (now (sheet .entry)) (now (rest .entry)) so ⌝ }
 {
     match kind {
@@ -83,7 +75,7 @@ fn read_body(kind: u8, sheet: &[u8], rest: &[u8], so: Counts) -> Reading
 
 // The record at the front of `rest`, the part of the sheet that is not yet read.
 pub fn read_record(sheet: &[u8], rest: &[u8], so: Counts) -> Reading
-    requires { ⌜ Apart 0 (regionsOf (now sheet) (so .regions)) ⌝ }
+    requires { ⌜ Laid (now sheet) (so .regions) ⌝ }
     ensures { λ r. ⌜ r ≡ recordOf (now (sheet .entry)) (now (rest .entry)) so ⌝ }
 {
     if rest.len() == 0 {

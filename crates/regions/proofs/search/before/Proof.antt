@@ -29,13 +29,18 @@ octets-holds c =
     subst (λ (i : ℕ). Passing (regionAt (a .sheet .now)) (a .regions) (a .right) (a .address) (a .address) i) (sym (c .passed .ensures))
     (passing-first (regionAt (a .sheet .now)) (a .regions) (a .right) (a .address))
 
+region-in-requires : tie.Need-region-in-requires Inv-loop μ-loop Inv-octets μ-octets
+region-in-requires c κs =
+    let p = c .before .before .before .before .before .before .pre .inside in
+    omega arith
+
 loop-holds : tie.Need-loop-holds Inv-loop μ-loop Inv-octets μ-octets
 loop-holds c = (refl, c .before .octets .inv)
 
 octets-less : tie.Need-octets-less Inv-loop μ-loop Inv-octets μ-octets
 octets-less c =
     let l = c .before .before .before .before .before .before .before .before .loop in
-    let b = holds-bounds (c .before .before .before .before .before .before .region-at .result) (l .to)
+    let b = holds-bounds (c .before .before .before .before .before .before .region-in .result) (l .to)
     (sym (c .before .before .before .before .before .holds .ensures) ∙ c .before .before .before .before .if1 .taken) in
     omega (arith, l .inv .0)
 
@@ -43,10 +48,10 @@ octets-again : tie.Need-octets-again Inv-loop μ-loop Inv-octets μ-octets
 octets-again c =
     let a = c .before .before .before .before .before .before .before .before .before .before .before .before .before .args in
     let l = c .before .before .before .before .before .before .before .before .loop in
-    let r = c .before .before .before .before .before .before .region-at in
+    let r = c .before .before .before .before .before .before .region-in in
     passing-jump (regionAt (a .sheet .now)) (a .regions) (a .right) (a .address) (l .to) (l .i) (l .inv .1)
     (c .before .before .before .before .before .before .before .loop-test .taken) (r .result) (r .ensures)
-    (c .before .before .before .before .before .before .before .before .before .before .before .before .before .pre)
+    (c .before .before .before .before .before .before .before .before .before .before .before .before .before .pre .apart)
     (sym (c .before .before .before .before .before .holds .ensures) ∙ c .before .before .before .before .if1 .taken)
     (sym (c .before .before .before .gives .ensures) ∙ c .before .before .if2 .taken)
 
@@ -57,7 +62,7 @@ loop-again : tie.Need-loop-again Inv-loop μ-loop Inv-octets μ-octets
 loop-again c =
     let a = c .before .before .before .before .before .before .before .before .before .args in
     let l = c .before .before .before .before .loop in
-    let r = c .before .before .region-at in (
+    let r = c .before .before .region-in in (
       l .inv .0,
       passing-on (regionAt (a .sheet .now)) (a .regions) (a .right) (a .address) (l .to) (l .i) (l .inv .1) (c .before .before .before .loop-test .taken)
           (r .result) (r .ensures) (sym (c .before .holds .ensures) ∙ c .if1 .left),
@@ -90,5 +95,5 @@ returns c =
 pub before-spec : {M : Type 1} → statement M
 before-spec =
     tie.close (tie.spec Inv-loop μ-loop Inv-octets μ-octets (λ c. search needs) (λ c κs. search needs) octets-holds loop-holds
-    (λ c κs. search needs) (λ c. search needs) (λ c κs. search needs) (λ c κs. search needs) (λ c. search needs) (λ c. search needs)
+    region-in-requires (λ c. search needs) (λ c κs. search needs) (λ c κs. search needs) (λ c. search needs) (λ c. search needs)
     (λ c. search needs) octets-less octets-again loop-less loop-again (λ c κs. search needs) returns)

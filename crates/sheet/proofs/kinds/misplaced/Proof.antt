@@ -1,7 +1,15 @@
--- `sheet::kinds::misplaced` meets its contract: at the front and behind it, by computing.
+-- `sheet::kinds::misplaced` meets its contract, at the front and, kind by kind, behind it.
+use mathlib.Core.Bool.{Bool, true, false, _||_}
+use mathlib.Core.Path.{_≡_, refl, sym}
+use borrow.Author.Tests.{ne-eqb}
+use lib.Dec.{ltb}
 use Rattle.sheet.specs.Kinds.{misplacedOf}
 use Rattle.sheet.proofs.kinds.misplaced.Statement.{statement}
 use Rattle.sheet.proofs.kinds.misplaced.Tie as tie
+
+or-no : (b : Bool) → b || false ≡ b
+or-no true = refl
+or-no false = refl
 
 returns : tie.Need-returns
 unfolding misplacedOf
@@ -9,8 +17,23 @@ returns c = rw (c .if1 .taken)
 
 returns-2 : tie.Need-returns-2
 unfolding misplacedOf
-returns-2 c = rw (c .before .before .before .if1 .left)
+returns-2 c = rw (c .before .if1 .left, c .match .keys1)
+
+returns-3 : tie.Need-returns-3
+unfolding misplacedOf
+returns-3 c =
+    let so = c .before .before .before .before .args .so in
+    rw (c .before .before .before .if1 .left, c .before .before .match .keys2) (sym (or-no (ltb 0 (so .parameters) || ltb 0 (so .items))))
+
+returns-4 : tie.Need-returns-4
+unfolding misplacedOf
+returns-4 c = rw (c .before .before .if1 .left, c .before .match .keys3)
+
+returns-5 : tie.Need-returns-5
+unfolding misplacedOf
+returns-5 c =
+    let kind = c .before .before .args .kind in
+    rw (c .before .if1 .left, ne-eqb kind 1 (c .match .rest .0 .0 .1), ne-eqb kind 2 (c .match .rest .0 .1), ne-eqb kind 3 (c .match .rest .1))
 
 pub misplaced-spec : {M : Type 1} → statement M
-misplaced-spec =
-    tie.close (tie.spec returns returns-2)
+misplaced-spec = tie.close (tie.spec returns returns-2 returns-3 returns-4 returns-5)

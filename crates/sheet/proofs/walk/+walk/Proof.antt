@@ -1,11 +1,12 @@
 -- The proof of the cycle of calls {walk}: the measure is the number of octets left, and the promise holds at every bound above it.
 use Prim.Native.Nat.{ℕ, _<_}
 use mathlib.Core.Path.{sym, _∙_}
+use native.Mathlib.Omega.{arith}
 use borrow.Author.Needs.{needs}
 use borrow.Fn.Kinds.{In}
 use borrow.Fn.PlainCycle.{Measures, is, falls, and}
 use lib.ListN.{length}
-use Rattle.sheet.proofs.Onward.{sound-apart, record-sound}
+use Rattle.sheet.proofs.Onward.{sound-laid, record-sound}
 use Rattle.sheet.proofs.Walked.{part-falls, walked-fault, walked-end, walked-on, standing-on}
 use Rattle.octets.proofs.octet.Reads as octet-reads
 use Rattle.sheet.proofs.reading.read_record.Reads as read-record-reads
@@ -47,7 +48,7 @@ pub +walk-spec : {M : Type 1} → statement M
     )
     (walk-at t) walk.Post
     -- what the reading asks
-    (λ c κs. sound-apart _ _ _ (c .before .before .pre .1 .sound))
+    (λ c κs. let f = c .before .before .pre .1 .fits in sound-laid _ _ _ (c .before .before .pre .1 .sound) (omega arith))
     (λ c. search needs)
     (λ c. search needs)
     -- a fault

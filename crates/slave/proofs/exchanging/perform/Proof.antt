@@ -5,7 +5,7 @@ use borrow.Author.Needs.{needs}
 use lib.ListN.{length}
 use Rattle.link.proofs.Back.{written, read-valid}
 use Rattle.machine.specs.Outcomes.{outcomeOf}
-use Rattle.sheet.proofs.Valid.{valid-sheet, valid-apart, length-least}
+use Rattle.sheet.proofs.Valid.{valid-sheet, valid-laid, length-least}
 use Rattle.slave.specs.Answers.{told}
 use Rattle.slave.specs.Exchange.{left, leftOf, exchanged}
 use Rattle.slave.proofs.Built.{built-reply}
@@ -17,7 +17,7 @@ outcome-requires : tie.Need-outcome-requires
 outcome-requires c κs =
     let a = c .before .before .before .before .before .before .args in
     let p = c .before .before .before .before .before .before .pre in
-    valid-apart (a .sheet .now) (a .layout) (valid-sheet (a .sheet .now) (a .layout) (p .valid))
+    valid-laid (a .sheet .now) (a .layout) (valid-sheet (a .sheet .now) (a .layout) (p .valid))
 
 head-requires : tie.Need-head-requires
 head-requires c κs =
