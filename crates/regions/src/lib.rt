@@ -3,7 +3,7 @@
 pub mod search; // search.rt: one octet's place and rights, and the searches over a span
 
 ghost use mathlib.Core.Path.{_≡_};
-ghost use Prim.Native.Nat.{_+_, _*_, _≤_};
+ghost use Prim.Native.Nat.{_+_, _≤_};
 ghost use lib.ListN.{length};
 ghost use Rattle.regions.specs.Region.{regionAt, regionFrom, holdsOf, givesOf};
 
@@ -29,12 +29,11 @@ pub fn region_at(sheet: &[u8], i: u8) -> Region
     region_from(sheet, 4 + 10 * (i as u16))
 }
 
-// Region `i` of a sheet whose end does not cut it: the way of the searches, which look at many.
-pub fn region_in(sheet: &[u8], i: u8) -> Region
-    requires { ⌜ 14 + 10 * i ≤ length (now sheet) ⌝ }
-    ensures { λ r. ⌜ r ≡ regionAt (now (sheet .entry)) i ⌝ }
+// The region record at `at` of a sheet whose end does not cut it: the way of the searches, which look at many.
+pub fn region_in(sheet: &[u8], at: usize) -> Region
+    requires { ⌜ at + 10 ≤ length (now sheet) ⌝ }
+    ensures { λ r. ⌜ r ≡ regionFrom (now (sheet .entry)) at ⌝ }
 {
-    let at = 4 + 10 * (i as usize);
     Region {
         start: octets::le4(sheet[at + 1], sheet[at + 2], sheet[at + 3], sheet[at + 4]),
         length: octets::le4(sheet[at + 5], sheet[at + 6], sheet[at + 7], sheet[at + 8]),

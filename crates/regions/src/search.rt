@@ -40,7 +40,7 @@ fn passed(sheet: &[u8], regions: u8, address: u64) -> u8
 {
     let mut i: u8 = 0;
     while i < regions {
-        let region = crate::region_in(sheet, i);
+        let region = crate::region_in(sheet, 4 + 10 * (i as usize));
         if address < region.start as u64 + region.length as u64 {
             return i;
         }
@@ -67,7 +67,7 @@ pub fn covers(sheet: &[u8], regions: u8, address: u32, size: u8) -> bool
     let mut to = address as u64;
     let mut i = passed(sheet, regions, to);
     while i < regions {
-        let region = crate::region_in(sheet, i);
+        let region = crate::region_in(sheet, 4 + 10 * (i as usize));
         if to < region.start as u64 {
             break;
         }
@@ -104,7 +104,7 @@ pub fn before(sheet: &[u8], regions: u8, right: Right, address: u32, size: u8) -
     let mut i = passed(sheet, regions, to);
     'octets: while to < end {
         while i < regions {
-            let region = crate::region_in(sheet, i);
+            let region = crate::region_in(sheet, 4 + 10 * (i as usize));
             i += 1;
             if crate::holds(region, to) {
                 if crate::gives(region.rights, right) {

@@ -3,19 +3,19 @@ use mathlib.Core.Bool.{Bool, true, false, _&&_, _||_, true≢false}
 use mathlib.Core.Logic.{⊎-elim}
 use mathlib.Core.Path.{_≡_, refl, sym, ap, subst, _∙_}
 use mathlib.Core.List.{List}
-use Prim.Native.Nat.{ℕ, _+_, _≤_}
+use Prim.Native.Nat.{ℕ, _+_, _-_, _*_, _≤_}
 use native.Mathlib.Omega.{arith}
 use borrow.Author.Tests.{eqb-true, eqb-false, ltb-false, eq-eqb, ne-eqb, not-false}
 use lib.Dec.{eqb, ltb}
 use lib.ListN.{length, getD, drop}
 use Rattle.octets.proofs.Cases.{eq-or-ne}
 use Rattle.octets.proofs.Pick.{passed, pick-eq, pick-ne, pick-key}
-use Rattle.regions.specs.Apart.{Apart, Laid}
+use Rattle.regions.specs.Apart.{Apart}
 use Rattle.regions.specs.Region.{regionAt, regionsOf}
 use Rattle.regions.proofs.Apart.{apart-listed}
 use Rattle.sheet.specs.Kinds.{isLength, sizeOf, misplacedOf}
 use Rattle.sheet.specs.Reading.{linkOf, regionOf, parameterOf, itemOf, bodyOf, recordOf}
-use Rattle.sheet.specs.Sound.{Sound, Standing, behind}
+use Rattle.sheet.specs.Sound.{Sound, Counted, Standing, behind}
 use Rattle.sheet.specs.Walk.{none, placeOf}
 use Rattle.sheet.specs.declared.records.Counts.{Counts}
 use Rattle.sheet.specs.declared.records.Reading.the-variants.{Record}
@@ -30,16 +30,16 @@ sound-apart s at so ok =
     (λ i l u. ok .regions-rise i (omega arith))
     (λ h. omega arith)
 
--- and their records are in the sheet
-pub sound-laid : (s : List ℕ) (at : ℕ) (so : Counts) → Sound s at so → at ≤ length s → Laid s (so .regions)
-sound-laid s at so ok h = record {
-  inside =
-      ⊎-elim
-      (λ z. let e : so .regions ≡ 0 = ap (λ (c : Counts). c .regions) (z .1) in omega arith)
-      (λ z. omega (arith, z .0))
-      (ok .begun);
-  apart = sound-apart s at so ok;
-}
+-- and all records that were counted are in the sheet
+pub sound-counted : (s : List ℕ) (at : ℕ) (so : Counts) → Sound s at so → at ≤ length s → Counted s so
+sound-counted s at so ok h = record { inside = all; laid = record { inside = omega (arith, all); apart = sound-apart s at so ok } }
+  where
+    all : 10 * so .regions + 8 * so .parameters + 35 * so .items ≤ length s - 4
+    all =
+        ⊎-elim
+        (λ z. rw (z .1) (omega arith))
+        (λ z. omega (arith, z .0))
+        (ok .begun)
 
 or-false : (a b : Bool) → a || b ≡ false → (a ≡ false) × (b ≡ false)
 or-false true b e = absurd (true≢false e)

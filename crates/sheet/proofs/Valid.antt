@@ -37,7 +37,7 @@ use Rattle.sheet.specs.declared.walk.Layout.{Layout}
 use Rattle.sheet.specs.declared.walk.Verdict.{Verdict}
 use Rattle.sheet.specs.declared.walk.Verdict.the-variants.{Valid, Faulty}
 use Rattle.sheet.proofs.Judged.{bad-record}
-use Rattle.sheet.proofs.Onward.{sound-apart, sound-laid, record-sound}
+use Rattle.sheet.proofs.Onward.{sound-apart, sound-counted, record-sound}
 use Rattle.sheet.proofs.Sought.{sought-keeps}
 use Rattle.sheet.proofs.Steps.{start-sound}
 use Rattle.sheet.proofs.Walked.{standing-behind}
@@ -138,7 +138,7 @@ module _ (s : List ℕ) (lay : Layout) (ok : ValidSheet s lay) where
   valid-apart = sound-apart s (behind (countsOf lay)) (countsOf lay) (ok .sound)
 
   pub valid-laid : Laid s (lay .regions)
-  valid-laid = sound-laid s (behind (countsOf lay)) (countsOf lay) (ok .sound) (omega (arith, ok .octets))
+  valid-laid = sound-counted s (behind (countsOf lay)) (countsOf lay) (ok .sound) (omega (arith, ok .octets)) .laid
 
   pub valid-parameter : (n : ℕ) (p : Parameter) → soughtParameter (parametersOf s (lay .regions) (lay .parameters)) n ≡ SoughtParameter.Found p
       → FineParameter s (lay .regions) p

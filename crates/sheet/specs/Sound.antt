@@ -6,6 +6,7 @@ use mathlib.Core.List.{List}
 use mathlib.Core.Logic.{_⊎_}
 use mathlib.Core.Path.{_≡_}
 use lib.ListN.{length, getD, drop}
+use Rattle.regions.specs.Apart.{Laid}
 use Rattle.regions.specs.Region.{regionAt, regionsOf}
 use Rattle.regions.specs.Search.{totalOf, beforeOf}
 use Rattle.regions.specs.declared.Region.{Region}
@@ -54,6 +55,11 @@ pub record Sound (s : List ℕ) (at : ℕ) (so : Counts) : Type 0 where
   pub items-fine : (k : ℕ) → k < so .items → FineItem (itemAt s (so .regions) (so .parameters) k)
   pub items-rise : (k : ℕ) → suc k < so .items
       → itemAt s (so .regions) (so .parameters) k .code < itemAt s (so .regions) (so .parameters) (suc k) .code
+
+-- the records counted in `so` are in the sheet, its regions ordered and apart: what the reading of the next record leans on
+pub record Counted (s : List ℕ) (so : Counts) : Type 0 where
+  pub inside : 10 * so .regions + 8 * so .parameters + 35 * so .items ≤ length s - 4
+  pub laid : Laid s (so .regions)
 
 -- the walk stands before `rest`, the last octets of the sheet `s`
 pub record Standing (s rest : List ℕ) (so : Counts) : Type 0 where

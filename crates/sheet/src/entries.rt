@@ -1,5 +1,7 @@
 // Parameters and ID items, read where the caller holds the sheet. Records have fixed sizes, so counts and an index give a place.
 ghost use mathlib.Core.Path.{_≡_};
+ghost use Prim.Native.Nat.{_+_, _≤_};
+ghost use lib.ListN.{length};
 ghost use Rattle.sheet.specs.Entries.{parameterFrom, parameterAt, itemFrom, itemAt, parametersOf, itemsOf, soughtParameter, soughtItem};
 
 // What a parameter record says behind its kind octet.
@@ -34,6 +36,18 @@ pub fn parameter_from(sheet: &[u8], at: u16) -> Parameter
         number: octets::le2_at(sheet, at as u32 + 1),
         address: octets::le4_at(sheet, at as u32 + 3),
         size: octets::octet(sheet, at as usize + 7),
+    }
+}
+
+// The parameter record at `at` of a sheet whose end does not cut it.
+pub fn parameter_in(sheet: &[u8], at: usize) -> Parameter
+    requires { ⌜ at + 8 ≤ length (now sheet) ⌝ }
+    ensures { λ r. ⌜ r ≡ parameterFrom (now (sheet .entry)) at ⌝ }
+{
+    Parameter {
+        number: octets::le2(sheet[at + 1], sheet[at + 2]),
+        address: octets::le4(sheet[at + 3], sheet[at + 4], sheet[at + 5], sheet[at + 6]),
+        size: sheet[at + 7],
     }
 }
 

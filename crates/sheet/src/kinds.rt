@@ -1,6 +1,8 @@
 // The kinds of record: the size of each, where each may stand, and what its order is held against.
 use crate::records::Counts;
 ghost use mathlib.Core.Path.{_≡_};
+ghost use Prim.Native.Nat.{_+_, _-_, _*_, _≤_};
+ghost use lib.ListN.{length};
 ghost use Rattle.sheet.specs.Kinds.{sizeOf, isLength, misplacedOf, endBefore, leastNumber, leastCode};
 
 // Whether a PDU length is one of the five.
@@ -40,25 +42,28 @@ pub fn misplaced(first: bool, kind: u8, so: Counts) -> bool
 
 // One past the last address of the region read last; 0 where none was read.
 pub fn end_before(sheet: &[u8], so: Counts) -> u64
+    requires { ⌜ 10 * so .regions ≤ length (now sheet) - 4 ⌝ }
     ensures { λ r. ⌜ r ≡ endBefore (now (sheet .entry)) so ⌝ }
 {
     let n = so.regions;
     if n == 0 {
         return 0;
     }
-    let last = regions::region_at(sheet, n - 1);
+    let last = regions::region_in(sheet, 4 + 10 * ((n - 1) as usize));
     last.start as u64 + last.length as u64
 }
 
 // The least number that the next parameter may have: one more than the number read last.
 pub fn least_number(sheet: &[u8], so: Counts) -> u32
+    requires { ⌜ 10 * so .regions + 8 * so .parameters ≤ length (now sheet) - 4 ⌝ }
     ensures { λ r. ⌜ r ≡ leastNumber (now (sheet .entry)) so ⌝ }
 {
     let n = so.parameters;
     if n == 0 {
         return 0;
     }
-    let last = crate::entries::parameter_at(sheet, so.regions, n - 1);
+    let at = 4 + 10 * (so.regions as usize) + 8 * ((n - 1) as usize);
+    let last = crate::entries::parameter_in(sheet, at);
     last.number as u32 + 1
 }
 

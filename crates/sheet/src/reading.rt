@@ -6,8 +6,8 @@ ghost use mathlib.Core.Path.{_≡_};
 ghost use Prim.Native.Nat.{_+_, _-_, _≤_};
 ghost use lib.ListN.{length, take, drop};
 ghost use Rattle.octets.specs.Parts.{allZero};
-ghost use Rattle.regions.specs.Apart.{Laid};
 ghost use Rattle.sheet.specs.Kinds.{sizeOf};
+ghost use Rattle.sheet.specs.Sound.{Counted};
 ghost use Rattle.sheet.specs.Reading.{linkOf, regionOf, parameterOf, itemOf, bodyOf, recordOf};
 
 fn read_link(rest: &[u8], so: Counts) -> Reading
@@ -20,20 +20,21 @@ fn read_link(rest: &[u8], so: Counts) -> Reading
 }
 
 fn read_region(sheet: &[u8], rest: &[u8], so: Counts) -> Reading
+    requires { ⌜ (10 ≤ length (now rest)) × Counted (now sheet) so ⌝ }
     ensures { λ r. ⌜ r ≡ regionOf (now (sheet .entry)) (now (rest .entry)) so ⌝ }
 {
     crate::judging::judge_region(
-        regions::region_from(rest, 0),
+        regions::region_in(rest, 0),
         crate::kinds::end_before(sheet, so),
         so,
     )
 }
 
 fn read_parameter(sheet: &[u8], rest: &[u8], so: Counts) -> Reading
-    requires { ⌜ Laid (now sheet) (so .regions) ⌝ }
+    requires { ⌜ (8 ≤ length (now rest)) × Counted (now sheet) so ⌝ }
     ensures { λ r. ⌜ r ≡ parameterOf (now (sheet .entry)) (now (rest .entry)) so ⌝ }
 {
-    let parameter = crate::entries::parameter_from(rest, 0);
+    let parameter = crate::entries::parameter_in(rest, 0);
     let inside = regions::search::covers(sheet, so.regions, parameter.address, parameter.size);
     crate::judging::judge_parameter(parameter, crate::kinds::least_number(sheet, so), inside, so)
 }
@@ -61,7 +62,7 @@ fn read_item(sheet: &[u8], rest: &[u8], so: Counts) -> Reading
 
 // A whole record of a known kind in its place.
 fn read_body(kind: u8, sheet: &[u8], rest: &[u8], so: Counts) -> Reading
-    requires { ⌜ (sizeOf kind ≤ length (now rest)) × Laid (now sheet) (so .regions) ⌝ }
+    requires { ⌜ (sizeOf kind ≤ length (now rest)) × Counted (now sheet) so ⌝ }
     ensures { λ r. ⌜ r ≡ bodyOf kind (now (sheet .entry)) (now (rest .entry)) so ⌝ }
 {
     match kind {
@@ -75,7 +76,7 @@ fn read_body(kind: u8, sheet: &[u8], rest: &[u8], so: Counts) -> Reading
 
 // The record at the front of `rest`, the part of the sheet that is not yet read.
 pub fn read_record(sheet: &[u8], rest: &[u8], so: Counts) -> Reading
-    requires { ⌜ Laid (now sheet) (so .regions) ⌝ }
+    requires { ⌜ Counted (now sheet) so ⌝ }
     ensures { λ r. ⌜ r ≡ recordOf (now (sheet .entry)) (now (rest .entry)) so ⌝ }
 {
     if rest.len() == 0 {

@@ -1,5 +1,5 @@
 -- `regions::region_in` meets its contract: the record's octets, counted from its own place.
-use Prim.Native.Nat.{_+_, _*_}
+use Prim.Native.Nat.{_+_}
 use mathlib.Core.Path.{sym, _∙_}
 use borrow.Author.Needs.{needs}
 use lib.ListN.{getD}
@@ -12,7 +12,7 @@ returns : tie.Need-returns
 unfolding regionFrom
 returns c =
     let a = c .before .before .before .before .before .before .before .before .before .before .before .before .args in
-    let at = 4 + 10 * a .i in
+    let at = a .at in
     λ i. record {
       start = (c .before .before .before .before .before .before .le4 .ensures ∙ sym (le4At-plus (a .sheet .now) at 1)) i;
       length = (c .before .le42 .ensures ∙ sym (le4At-plus (a .sheet .now) at 5)) i;
@@ -22,7 +22,7 @@ returns c =
 pub region-in-spec : {M : Type 1} → statement M
 region-in-spec =
     tie.close
-    (tie.spec (λ c. search needs) (λ c. search needs) (λ c. search needs) (λ c. search needs) (λ c. search needs) (λ c. search needs) (λ c. search needs)
+    (tie.spec (λ c. search needs) (λ c. search needs) (λ c. search needs) (λ c. search needs) (λ c. search needs)
     (λ c. search needs) (λ c. search needs) (λ c. search needs) (λ c κs. search needs) (λ c. search needs) (λ c. search needs) (λ c. search needs)
     (λ c. search needs) (λ c. search needs) (λ c. search needs) (λ c. search needs) (λ c. search needs) (λ c κs. search needs) (λ c. search needs)
     (λ c. search needs) returns)

@@ -95,5 +95,5 @@ returns c =
 pub before-spec : {M : Type 1} → statement M
 before-spec =
     tie.close (tie.spec Inv-loop μ-loop Inv-octets μ-octets (λ c. search needs) (λ c κs. search needs) octets-holds loop-holds
-    region-in-requires (λ c. search needs) (λ c κs. search needs) (λ c κs. search needs) (λ c. search needs) (λ c. search needs)
+    (λ c. search needs) (λ c. search needs) (λ c. search needs) region-in-requires (λ c. search needs) (λ c κs. search needs) (λ c κs. search needs) (λ c. search needs) (λ c. search needs)
     (λ c. search needs) octets-less octets-again loop-less loop-again (λ c κs. search needs) returns)

@@ -65,5 +65,5 @@ returns c =
 
 pub covers-spec : {M : Type 1} → statement M
 covers-spec =
-    tie.close (tie.spec Inv-loop μ-loop (λ c. search needs) (λ c κs. search needs) loop-holds region-in-requires (λ c. search needs) (λ c. search needs) (λ c. search needs)
+    tie.close (tie.spec Inv-loop μ-loop (λ c. search needs) (λ c κs. search needs) loop-holds (λ c. search needs) (λ c. search needs) (λ c. search needs) region-in-requires (λ c. search needs) (λ c. search needs) (λ c. search needs)
     (λ c. search needs) (λ c κs. search needs) (λ c. search needs) loop-less loop-again returns)

@@ -58,5 +58,5 @@ returns-2 c =
 
 pub passed-spec : {M : Type 1} → statement M
 passed-spec =
-    tie.close (tie.spec Inv-loop μ-loop loop-holds region-in-requires (λ c. search needs) (λ c. search needs) (λ c. search needs) returns (λ c. search needs)
+    tie.close (tie.spec Inv-loop μ-loop loop-holds (λ c. search needs) (λ c. search needs) (λ c. search needs) region-in-requires (λ c. search needs) (λ c. search needs) (λ c. search needs) returns (λ c. search needs)
     loop-less loop-again returns-2)

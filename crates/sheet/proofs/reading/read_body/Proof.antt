@@ -9,6 +9,19 @@ use Rattle.sheet.specs.Reading.{bodyOf}
 use Rattle.sheet.proofs.reading.read_body.Statement.{statement}
 use Rattle.sheet.proofs.reading.read_body.Tie as tie
 
+read-region-requires : tie.Need-read-region-requires
+unfolding sizeOf
+read-region-requires c κs =
+    let e = pick-key 0 _ _ (c .match .keys3) refl ∙ pick-key 1 _ _ (c .match .keys3) refl ∙ pick-eq _ _ (c .match .keys3) in
+    (subst (λ (m : ℕ). m ≤ length (c .before .before .before .args .rest .now)) e (c .before .before .before .pre .0), c .before .before .before .pre .1)
+
+read-parameter-requires : tie.Need-read-parameter-requires
+unfolding sizeOf
+read-parameter-requires c κs =
+    let k = c .match .keys4 in
+    let e = pick-key 0 _ _ k refl ∙ pick-key 1 _ _ k refl ∙ pick-key 2 _ _ k refl ∙ pick-eq _ _ k in
+    (subst (λ (m : ℕ). m ≤ length (c .before .before .before .args .rest .now)) e (c .before .before .before .pre .0), c .before .before .before .pre .1)
+
 read-item-requires : tie.Need-read-item-requires
 unfolding sizeOf
 read-item-requires c κs =
@@ -55,5 +68,5 @@ returns-5 c =
 
 pub read-body-spec : {M : Type 1} → statement M
 read-body-spec =
-    tie.close (tie.spec (λ c κs. search needs) (λ c κs. search needs) (λ c κs. search needs) read-item-requires returns returns-2 returns-3
+    tie.close (tie.spec (λ c κs. search needs) read-region-requires read-parameter-requires read-item-requires returns returns-2 returns-3
     returns-4 returns-5)

@@ -7,7 +7,7 @@ use Rattle.sheet.proofs.reading.read_parameter.Tie as tie
 
 returns : tie.Need-returns
 unfolding parameterOf
-returns c = c .judge-parameter .ensures ∙ rw (c .before .before .covers .ensures, c .before .before .before .parameter-from .ensures, c .before .least-number .ensures)
+returns c = c .judge-parameter .ensures ∙ rw (c .before .before .covers .ensures, c .before .before .before .parameter-in .ensures, c .before .least-number .ensures)
 
 pub read-parameter-spec : {M : Type 1} → statement M
 read-parameter-spec =

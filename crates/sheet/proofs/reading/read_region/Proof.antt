@@ -7,7 +7,7 @@ use Rattle.sheet.proofs.reading.read_region.Tie as tie
 
 returns : tie.Need-returns
 unfolding regionOf
-returns c = c .judge-region .ensures ∙ rw (c .before .before .region-from .ensures, c .before .end-before .ensures)
+returns c = c .judge-region .ensures ∙ rw (c .before .before .region-in .ensures, c .before .end-before .ensures)
 
 pub read-region-spec : {M : Type 1} → statement M
 read-region-spec =

@@ -6,7 +6,7 @@ use borrow.Author.Needs.{needs}
 use borrow.Fn.Kinds.{In}
 use borrow.Fn.PlainCycle.{Measures, is, falls, and}
 use lib.ListN.{length}
-use Rattle.sheet.proofs.Onward.{sound-laid, record-sound}
+use Rattle.sheet.proofs.Onward.{sound-counted, record-sound}
 use Rattle.sheet.proofs.Walked.{part-falls, walked-fault, walked-end, walked-on, standing-on}
 use Rattle.octets.proofs.octet.Reads as octet-reads
 use Rattle.sheet.proofs.reading.read_record.Reads as read-record-reads
@@ -48,7 +48,7 @@ pub +walk-spec : {M : Type 1} → statement M
     )
     (walk-at t) walk.Post
     -- what the reading asks
-    (λ c κs. let f = c .before .before .pre .1 .fits in sound-laid _ _ _ (c .before .before .pre .1 .sound) (omega arith))
+    (λ c κs. let f = c .before .before .pre .1 .fits in sound-counted _ _ _ (c .before .before .pre .1 .sound) (omega arith))
     (λ c. search needs)
     (λ c. search needs)
     -- a fault
