@@ -8,7 +8,7 @@ use lib.Seq.{take-all, drop-drop}
 use Rattle.octets.proofs.Pick.{pick-eq, pick-ne}
 use Rattle.sheet.specs.Reading.{recordOf}
 use Rattle.sheet.specs.Sound.{Sound, Standing}
-use Rattle.sheet.specs.Walk.{placeOf, endedOf, onward, walkOf, faultAt}
+use Rattle.sheet.specs.Walk.{placeOf, endedOf, onward, walkOf, tells, failedAt}
 use Rattle.sheet.specs.declared.records.Counts.{Counts}
 use Rattle.sheet.specs.declared.records.Fault.{Fault}
 use Rattle.sheet.specs.declared.records.Reading.{Reading}
@@ -28,8 +28,8 @@ part-falls n rest t e one fits = rw (behind-part n rest, length-drop n rest) (om
 
 module _ (s rest : List ℕ) (so : Counts) where
   pub walked-fault : (read : Reading) (fault : Fault) (place : ℕ) → read ≡ recordOf s rest so → read ≡ Bad fault → place ≡ placeOf s rest
-      → (f : ℕ) → length rest < f → faultAt read place ≡ walkOf f s rest so
-  unfolding walkOf onward faultAt
+      → (f : ℕ) → length rest < f → tells s (failedAt read place) ≡ walkOf f s rest so
+  unfolding walkOf onward tells failedAt
   walked-fault read fault place e r p zero h = absurd (let k : ⊥ = omega arith in k)
   walked-fault read fault place e r p (suc f) h = rw (← e, r, p)
 

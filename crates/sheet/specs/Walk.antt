@@ -12,6 +12,8 @@ use Rattle.sheet.specs.declared.records.Reading.the-variants.{Record, Ba
 use Rattle.sheet.specs.declared.walk.Layout.{Layout}
 use Rattle.sheet.specs.declared.walk.Verdict.{Verdict}
 use Rattle.sheet.specs.declared.walk.Verdict.the-variants.{Valid, Faulty}
+use Rattle.sheet.specs.declared.walk.Walked.{Walked}
+use Rattle.sheet.specs.declared.walk.Walked.the-variants.{Whole, Failed}
 
 -- before the first record
 abbrev pub none : Counts
@@ -53,7 +55,13 @@ walkOf (suc f) s rest so =
 unfoldable pub verdictOf : List ℕ → Verdict
 verdictOf s = pick (ltb 2048 (length s)) (Faulty Ended 0) (walkOf (suc (length s)) s s none)
 
+-- what the code's walk comes to, and what that tells of the sheet
+unfoldable pub tells : List ℕ → Walked → Verdict
+tells s (Whole regions parameters items memory) =
+    Valid (layoutOf s (record { regions = regions; parameters = parameters; items = items; memory = memory }))
+tells s (Failed fault place) = Faulty fault place
+
 -- the fault of a reading, with its place: asked only of a reading that is no record
-unfoldable pub faultAt : Reading → ℕ → Verdict
-faultAt (Bad fault) place = Faulty fault place
-faultAt (Record size next) place = Faulty Ended place
+unfoldable pub failedAt : Reading → ℕ → Walked
+failedAt (Bad fault) place = Failed fault place
+failedAt (Record size next) place = Failed Ended place

@@ -6,7 +6,7 @@ ghost use mathlib.Core.Path.{_≡_};
 ghost use Prim.Native.Nat.{ℕ, _≤_, _<_, _-_};
 ghost use lib.ListN.{length};
 ghost use Rattle.sheet.specs.Sound.{Standing};
-ghost use Rattle.sheet.specs.Walk.{layoutOf, faultAt, endedOf, walkOf, verdictOf};
+ghost use Rattle.sheet.specs.Walk.{layoutOf, tells, failedAt, endedOf, walkOf, verdictOf};
 
 // What a valid sheet says: the link record's three fields, the counts, and the octets of memory.
 pub struct Layout {
@@ -23,6 +23,13 @@ pub struct Layout {
 pub enum Verdict {
     Valid(Layout),
     Faulty(Fault, u16),
+}
+
+// What the walk comes to: the counts of a sheet that is whole, or the first fault with its place. It is kept to eight octets, so that it is handed
+// back from record to record in a register.
+pub enum Walked {
+    Whole(u8, u8, u8, u32),
+    Failed(Fault, u16),
 }
 
 // The layout of a sheet whose records were counted.
@@ -49,30 +56,30 @@ fn place(sheet: &[u8], rest: &[u8]) -> u16
 }
 
 // The fault of a reading that is no record, with its place: taken apart here, since an `else` binds nothing.
-fn fault_at(read: Reading, place: u16) -> Verdict
-    ensures { λ r. ⌜ r ≡ faultAt read place ⌝ }
+fn fault_at(read: Reading, place: u16) -> Walked
+    ensures { λ r. ⌜ r ≡ failedAt read place ⌝ }
 {
     match read {
-        Reading::Bad(fault) => Verdict::Faulty(fault, place),
-        Reading::Record(_, _) => Verdict::Faulty(Fault::Ended, place),
+        Reading::Bad(fault) => Walked::Failed(fault, place),
+        Reading::Record(_, _) => Walked::Failed(Fault::Ended, place),
     }
 }
 
 // At the end record: nothing may stand behind it.
-fn ended(sheet: &[u8], rest: &[u8], so: Counts) -> Verdict
+fn ended(sheet: &[u8], rest: &[u8], so: Counts) -> Walked
     requires { ⌜ (length (now sheet) ≤ 2048) × (length (now rest) ≤ length (now sheet)) ⌝ }
-    ensures { λ r. ⌜ r ≡ endedOf (now (sheet .entry)) (now (rest .entry)) so ⌝ }
+    ensures { λ r. ⌜ tells (now (sheet .entry)) r ≡ endedOf (now (sheet .entry)) (now (rest .entry)) so ⌝ }
 {
     if 1 < rest.len() {
-        return Verdict::Faulty(Fault::Misplaced, place(sheet, rest) + 1);
+        return Walked::Failed(Fault::Misplaced, place(sheet, rest) + 1);
     }
-    Verdict::Valid(laid_out(sheet, so))
+    Walked::Whole(so.regions, so.parameters, so.items, so.memory)
 }
 
 // From one record to the next: it calls itself on the part behind the record just read.
-fn walk(sheet: &[u8], rest: &[u8], so: Counts) -> Verdict
+fn walk(sheet: &[u8], rest: &[u8], so: Counts) -> Walked
     requires { ⌜ Standing (now sheet) (now rest) so ⌝ }
-    ensures { λ r. ⌜ ((f : ℕ) → length (now (rest .entry)) < f → r ≡ walkOf f (now (sheet .entry)) (now (rest .entry)) so) ⌝ }
+    ensures { λ r. ⌜ ((f : ℕ) → length (now (rest .entry)) < f → tells (now (sheet .entry)) r ≡ walkOf f (now (sheet .entry)) (now (rest .entry)) so) ⌝ }
 {
     let read = crate::reading::read_record(sheet, rest, so);
     let Reading::Record(size, next) = read else {
@@ -85,6 +92,24 @@ fn walk(sheet: &[u8], rest: &[u8], so: Counts) -> Verdict
     walk(sheet, &rest[from..], next)
 }
 
+// The verdict that the walk's answer tells.
+fn told(sheet: &[u8], walked: Walked) -> Verdict
+    ensures { λ r. ⌜ r ≡ tells (now (sheet .entry)) walked ⌝ }
+{
+    match walked {
+        Walked::Whole(regions, parameters, items, memory) => Verdict::Valid(laid_out(
+            sheet,
+            Counts {
+                regions,
+                parameters,
+                items,
+                memory,
+            },
+        )),
+        Walked::Failed(fault, place) => Verdict::Faulty(fault, place),
+    }
+}
+
 // The verdict on a sheet of any octets.
 pub fn check(sheet: &[u8]) -> Verdict
     ensures { λ r. ⌜ r ≡ verdictOf (now (sheet .entry)) ⌝ }
@@ -92,14 +117,11 @@ pub fn check(sheet: &[u8]) -> Verdict
     if 2048 < sheet.len() {
         return Verdict::Faulty(Fault::Ended, 0);
     }
-    walk(
-        sheet,
-        sheet,
-        Counts {
-            regions: 0,
-            parameters: 0,
-            items: 0,
-            memory: 0,
-        },
-    )
+    let none = Counts {
+        regions: 0,
+        parameters: 0,
+        items: 0,
+        memory: 0,
+    };
+    told(sheet, walk(sheet, sheet, none))
 }

@@ -1,11 +1,12 @@
 -- The proof of the cycle of calls {walk}: the measure is the number of octets left, and the promise holds at every bound above it.
 use Prim.Native.Nat.{ℕ, _<_}
-use mathlib.Core.Path.{sym, _∙_}
+use mathlib.Core.Path.{sym, ap, _∙_}
 use native.Mathlib.Omega.{arith}
 use borrow.Author.Needs.{needs}
 use borrow.Fn.Kinds.{In}
 use borrow.Fn.PlainCycle.{Measures, is, falls, and}
 use lib.ListN.{length}
+use Rattle.sheet.specs.Walk.{tells}
 use Rattle.sheet.proofs.Onward.{sound-counted, record-sound}
 use Rattle.sheet.proofs.Walked.{part-falls, walked-fault, walked-end, walked-on, standing-on}
 use Rattle.octets.proofs.octet.Reads as octet-reads
@@ -57,7 +58,7 @@ pub +walk-spec : {M : Type 1} → statement M
     (λ c f h.
     let a = c .before .before .before .before .before .before .before .args in
     let e = c .before .before .enum-told .given in
-    c .fault-at .ensures
+    ap (tells (a .sheet .now)) (c .fault-at .ensures)
     ∙ walked-fault (a .sheet .now) (a .rest .now) (a .so) (c .before .before .before .before .read-record .result) (e .0 .0) (c .before .place .result)
     (c .before .before .before .before .read-record .ensures) (e .1) (c .before .place .ensures) f h)
     (λ c κs. search needs)
@@ -94,5 +95,5 @@ pub +walk-spec : {M : Type 1} → statement M
     let r = c .before .before .before .before .before .read .given in
     let g = record-sound (a .sheet .now) (a .rest .now) (a .so) (r .0 .0) (r .0 .1 .0) (c .before .before .before .before .before .before .before .before .before .before .pre .1) (sym (c .before .before .before .before .before .before .before .read-record .ensures) ∙ r .1)
     (λ z. c .before .before .if1 .left (c .before .before .before .octet .ensures ∙ z)) in
-    walked-on (a .sheet .now) (a .rest .now) (a .so) (r .0 .0) (r .0 .1 .0) (c .walk .result) (sym (c .before .before .before .before .before .before .before .read-record .ensures) ∙ r .1)
+    walked-on (a .sheet .now) (a .rest .now) (a .so) (r .0 .0) (r .0 .1 .0) (tells (a .sheet .now) (c .walk .result)) (sym (c .before .before .before .before .before .before .before .read-record .ensures) ∙ r .1)
     (λ z. c .before .before .if1 .left (c .before .before .before .octet .ensures ∙ z)) g (c .walk .ensures)))

@@ -3,6 +3,7 @@ use Prim.Native.Nat.{ℕ, suc, _-_}
 use mathlib.Core.Path.{_≡_, sym, ap, subst, _∙_}
 use native.Mathlib.Nat.{le-refl}
 use native.Mathlib.Omega.{arith}
+use borrow.Author.Needs.{needs}
 use lib.ListN.{length, drop}
 use Rattle.octets.proofs.Pick.{pick-lt, pick-ge}
 use Rattle.sheet.specs.Walk.{verdictOf, none}
@@ -23,8 +24,9 @@ walk-requires c κs =
 
 returns-2 : tie.Need-returns-2
 unfolding verdictOf
-returns-2 c = c .walk .ensures (suc (length (c .before .before .before .args .sheet .now))) (le-refl _) ∙ sym (pick-ge _ _ (c .before .if1 .left))
+returns-2 c =
+    c .told .ensures ∙ c .before .walk .ensures (suc (length (c .before .before .before .before .args .sheet .now))) (le-refl _) ∙ sym (pick-ge _ _ (c .before .before .if1 .left))
 
 pub check-spec : {M : Type 1} → statement M
 check-spec =
-    tie.close (tie.spec returns walk-requires returns-2)
+    tie.close (tie.spec returns walk-requires (λ c κs. search needs) returns-2)
