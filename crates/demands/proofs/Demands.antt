@@ -2,28 +2,33 @@
 use Rattle.demands.specs.Demands.{FirstDemand, SecondDemand, ThirdDemand, IdlePrograms, OnTheBench}
 use Rattle.demands.proofs.Alone.{refuses-all-keeps-secrets, single-reply-keeps-secrets, stores-nothing-keeps-secrets, echoes-afterwards-keeps-secrets, invents-rsn-keeps-secrets, invents-rsn-agrees-where-reached}
 use Rattle.demands.proofs.Bench.{sheet-p-is-valid, bench-cases}
+use Rattle.demands.proofs.Bodies.{body-in-the-reply}
 use Rattle.demands.proofs.Exact.{acceptance-is-exact, rights-over-whole-span}
 use Rattle.demands.proofs.Histories.{history-is-run}
 use Rattle.demands.proofs.Lengths.{memory-keeps-its-length}
+use Rattle.demands.proofs.OnTheWire.{refused-on-the-wire}
 use Rattle.demands.proofs.Owned.{writes-own-octets}
 use Rattle.demands.proofs.Refusals.{refused-changes-nothing, states-stay-valid}
 use Rattle.demands.proofs.Secrets.{demand-3}
 use Rattle.demands.proofs.Shut.{refuses-all-is-shut-out, single-reply-is-shut-out, stores-nothing-is-shut-out, echoes-afterwards-is-shut-out, invents-rsn-is-shut-out}
-use Rattle.demands.proofs.Unique.{one-reset, one-enable, one-exchange}
+use Rattle.demands.proofs.Unique.{one-answers}
 
 pub first-demand : FirstDemand
-first-demand = record { a-refused-call-changes-nothing = refused-changes-nothing; states-stay-valid = states-stay-valid }
+first-demand = record {
+  a-refused-call-changes-nothing = refused-changes-nothing;
+  a-command-refused-on-the-wire = refused-on-the-wire;
+  states-stay-valid = states-stay-valid;
+}
 
 pub second-demand : SecondDemand
 second-demand = record {
   acceptance-is-exact = acceptance-is-exact;
   rights-over-the-whole-span = rights-over-whole-span;
+  body-in-the-reply = body-in-the-reply;
   over-every-sequence = λ sheet state memory calls ls h. history-is-run sheet h;
   a-write-stores-its-own-octets = writes-own-octets;
   the-memory-keeps-its-length = memory-keeps-its-length;
-  two-resets-are-one = one-reset;
-  two-enables-are-one = one-enable;
-  two-exchanges-are-one = one-exchange;
+  two-answers-are-one = one-answers;
 }
 
 pub third-demand : ThirdDemand

@@ -10,7 +10,12 @@ pub mod Memories
 pub mod Owned
 pub mod Secrets
 pub mod Lengths
+pub mod Machine
+pub mod Replies
+pub mod Answered
 pub mod Exact
+pub mod Bodies
+pub mod OnTheWire
 pub mod Shut
 pub mod Alone
 pub mod Unique

@@ -35,7 +35,7 @@ use Rattle.sheet.proofs.Valid.{ValidSheet, valid-parameter, length-least}
 use Rattle.slave.specs.Exchange.{Left, exchanged, exchangeOf}
 use Rattle.slave.proofs.Order.{on-valid, on-state}
 use Rattle.demands.specs.Accepted.{Write, Nothing, Octets, Row, row, written, spanFits, parameterRow, itemRow, memoryRow, rowOf, acceptedOf, laid}
-use Rattle.demands.specs.Writes.{Answered}
+use Rattle.demands.specs.Answered.{Answered}
 use Rattle.demands.proofs.Rows.{memoryBy, judge-by}
 
 -- an answered exchange is the defined one

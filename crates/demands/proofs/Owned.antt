@@ -27,7 +27,8 @@ use Rattle.sheet.proofs.Valid.{ValidSheet, valid-sheet, valid-apart}
 use Rattle.slave.specs.Exchange.{Left, exchanged, exchangeOf}
 use Rattle.slave.proofs.Order.{no-refusal}
 use Rattle.demands.specs.Accepted.{Write, Nothing, Octets, rowOf, acceptedOf, laid}
-use Rattle.demands.specs.Writes.{Answered, Wrote, WritesOwnOctets}
+use Rattle.demands.specs.Answered.{Answered}
+use Rattle.demands.specs.Writes.{Wrote, WritesOwnOctets}
 use Rattle.demands.proofs.Lists.{put-before, put-inside, put-behind, put-length, part-length, part-at}
 use Rattle.demands.proofs.Memories.{exchange-memory, row-sound, accepted-row, answered-is}
 use Rattle.demands.proofs.Refusals.{by-sheet, by-state}

@@ -24,14 +24,15 @@ use Rattle.machine.specs.declared.words.Effect.the-variants.{Quiet, Reads, Writ
 use Rattle.sheet.specs.Walk.{verdictOf}
 use Rattle.sheet.specs.declared.walk.Layout.{Layout}
 use Rattle.sheet.specs.declared.walk.Verdict.the-variants.{Valid}
-use Rattle.sheet.proofs.Valid.{ValidSheet, valid-sheet}
+use Rattle.sheet.proofs.Valid.{ValidSheet, valid-sheet, same-layout}
 use Rattle.slave.specs.Answers.{told, onState}
 use Rattle.slave.specs.Exchange.{Left, left, refusalOf, exchanged, exchangeOf}
 use Rattle.slave.proofs.Fits.{outcome-fits}
 use Rattle.slave.proofs.Order.{on-valid, on-invalid, on-state, no-refusal}
+use Rattle.demands.specs.Answered.{Answered}
 use Rattle.demands.specs.Hidden.{Readable, DifferOnlyHidden, Seen, seen, Demand3}
 use Rattle.demands.specs.Sequences.{Call, Reset, Enable, Exchange, callOf, runOf, lastMemory}
-use Rattle.demands.specs.Writes.{Answered, Wrote, ReachedBy, Reached}
+use Rattle.demands.specs.Writes.{Wrote, ReachedBy, Reached}
 use Rattle.demands.proofs.Lists.{put-before, put-inside, put-behind, put-length, part-length, part-same}
 use Rattle.demands.proofs.Memories.{answered-is}
 use Rattle.demands.proofs.Owned.{writes-own-octets}
@@ -100,10 +101,7 @@ pub record Kept (sheet : List ℕ) (lay : Layout) (E : ℕ → Type 0) (reached 
   pub whole₂ : length (l₂ .memory) ≡ lay .memory
   pub agree : (i : ℕ) → E i ⊎ reached i → getD (l₁ .memory) i 0 ≡ getD (l₂ .memory) i 0
 
--- a sheet has one layout, and a record holds one state
-same-layout′ : {x : _} {a b : Layout} → x ≡ Valid a → x ≡ Valid b → a ≡ b
-same-layout′ p q = cc
-
+-- a record holds one state
 not-held : (s : List ℕ) {a b : Layout} {st : LinkState} → stateOf s (a .l) ≡ Invalid → a ≡ b → stateOf s (b .l) ≡ State st → ⊥
 not-held s {a} {b} {st} p e q =
     let r : stateOf s (a .l) ≡ State st = ap (λ (x : Layout). stateOf s (x .l)) e ∙ q in
@@ -201,7 +199,7 @@ module _ (sheet : List ℕ) (lay : Layout) (v : verdictOf sheet ≡ Valid lay) (
           subst₂ (λ (x y : Left). Kept sheet lay E (λ i. (k : ℕ) × Wrote sheet state m₁ command reply i k) x y)
           (sym (refused-state sheet state m₁ command reply lay v h)) (sym (refused-state sheet state m₂ command reply lay v h))
           (still (told 1 0) state reply _
-          (λ i r. not-held state h (same-layout′ v (r .1 .answered .valid)) (r .1 .answered .held)))
+          (λ i r. not-held state h (same-layout (sym v ∙ r .1 .answered .valid)) (r .1 .answered .held)))
       state-kept (State st) h reached =
           ⊎-elim
           (λ (z : refusalOf lay st (length m₁) (length command) (length reply) ≡ 0).
@@ -221,7 +219,7 @@ module _ (sheet : List ℕ) (lay : Layout) (v : verdictOf sheet ≡ Valid lay) (
           subst₂ (λ (x y : Left). Kept sheet lay E (λ i. (k : ℕ) × Wrote sheet state m₁ command reply i k) x y) (sym r₁) (sym r₂)
           (still (told n₁ 0) state reply _
           (λ i r.
-          let q = same-layout′ v (r .1 .answered .valid) in
+          let q = same-layout (sym v ∙ r .1 .answered .valid) in
           z (subst₂ (λ (x : Layout) (y : LinkState). refusalOf x y (length m₁) (length command) (length reply) ≡ 0) (sym q)
           (sym (same-held′ state h q (r .1 .answered .held))) (r .1 .answered .free)))))
           (eq-or-ne (refusalOf lay st (length m₁) (length command) (length reply)) 0)

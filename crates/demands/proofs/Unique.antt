@@ -4,22 +4,47 @@ use Prim.Native.Nat.{ℕ}
 use mathlib.Core.List.{List}
 use Rattle.slave.specs.Calls.{After, after}
 use Rattle.slave.specs.Exchange.{Left, left}
-use Rattle.demands.specs.Unique.{OneAnswer, OneReset, OneEnable, OneExchange}
+use Rattle.type24.specs.Packed.{PackedAfter, packedAfter, PackedLeft, packedLeft}
+use Rattle.demands.specs.Unique.{OneAnswer, OneAnswers}
 
 pub one-answer : OneAnswer
 one-answer A x y defined p q = p ∙ sym q
 
-pub one-reset : OneReset
-one-reset sheet state r q s t a b =
-    let e = one-answer After (after r s) (after q t) _ a b in
+-- the same of an answer with the lent octets beside it, field by field
+of-after : (defined : After) (r q : _) (s t : List ℕ) → after r s ≡ defined → after q t ≡ defined → (r ≡ q) × (s ≡ t)
+of-after defined r q s t a b =
+    let e = one-answer After (after r s) (after q t) defined a b in
     (ap (λ (x : After). x .answer) e, ap (λ (x : After). x .state) e)
 
-pub one-enable : OneEnable
-one-enable sheet state r q s t a b =
-    let e = one-answer After (after r s) (after q t) _ a b in
-    (ap (λ (x : After). x .answer) e, ap (λ (x : After). x .state) e)
-
-pub one-exchange : OneExchange
-one-exchange sheet state memory command reply r q s t m n o p a b =
-    let e = one-answer Left (left r s m o) (left q t n p) _ a b in
+of-left : (defined : Left) (r q : _) (s t m n o p : List ℕ) → left r s m o ≡ defined → left q t n p ≡ defined
+    → (r ≡ q) × (s ≡ t) × (m ≡ n) × (o ≡ p)
+of-left defined r q s t m n o p a b =
+    let e = one-answer Left (left r s m o) (left q t n p) defined a b in
     (ap (λ (x : Left). x .answer) e, ap (λ (x : Left). x .state) e, ap (λ (x : Left). x .memory) e, ap (λ (x : Left). x .reply) e)
+
+of-packed-after : (defined : PackedAfter) (r q : ℕ) (s t : List ℕ) → packedAfter r s ≡ defined → packedAfter q t ≡ defined → (r ≡ q) × (s ≡ t)
+of-packed-after defined r q s t a b =
+    let e = one-answer PackedAfter (packedAfter r s) (packedAfter q t) defined a b in
+    (ap (λ (x : PackedAfter). x .answer) e, ap (λ (x : PackedAfter). x .state) e)
+
+of-packed-left : (defined : PackedLeft) (r q : ℕ) (s t m n o p : List ℕ) → packedLeft r s m o ≡ defined → packedLeft q t n p ≡ defined
+    → (r ≡ q) × (s ≡ t) × (m ≡ n) × (o ≡ p)
+of-packed-left defined r q s t m n o p a b =
+    let e = one-answer PackedLeft (packedLeft r s m o) (packedLeft q t n p) defined a b in (
+      ap (λ (x : PackedLeft). x .answer) e,
+      ap (λ (x : PackedLeft). x .state) e,
+      ap (λ (x : PackedLeft). x .memory) e,
+      ap (λ (x : PackedLeft). x .reply) e,
+    )
+
+pub one-answers : OneAnswers
+one-answers = record {
+  t24-sheet = λ sheet r q a b. one-answer ℕ r q _ a b;
+  t24-lengths = λ sheet r q a b. one-answer ℕ r q _ a b;
+  t24-reset = λ sheet state r q s t a b. of-packed-after _ r q s t a b;
+  t24-enable = λ sheet state r q s t a b. of-packed-after _ r q s t a b;
+  t24-exchange = λ sheet state memory command reply r q s t m n o p a b. of-packed-left _ r q s t m n o p a b;
+  slave-reset = λ sheet state r q s t a b. of-after _ r q s t a b;
+  slave-enable = λ sheet state r q s t a b. of-after _ r q s t a b;
+  slave-exchange = λ sheet state memory command reply r q s t m n o p a b. of-left _ r q s t m n o p a b;
+}

@@ -6,16 +6,14 @@ use mathlib.Core.Path.{_≡_}
 use lib.Dec.{eqb, leb}
 use Rattle.octets.specs.Parts.{part, putAt}
 use Rattle.octets.specs.Pick.{pick}
+use Rattle.frame.specs.Fields.{commandOf}
 use Rattle.link.specs.Steps.{followsOf}
 use Rattle.link.specs.declared.state.LinkState.{LinkState}
 use Rattle.machine.specs.Codes.{isKnown, isAllowed}
 use Rattle.machine.specs.Connecting.{comModFits, comTimeFits}
-use Rattle.machine.specs.Judging.{elementOf, judgeOf}
-use Rattle.machine.specs.Outcomes.{comesTo, mnOf, counting, outcomeOf}
+use Rattle.machine.specs.Judging.{elementOf}
 use Rattle.machine.specs.Spans.{rightOf, spanPlace}
 use Rattle.machine.specs.declared.words.Command.{Command}
-use Rattle.machine.specs.declared.words.Effect.{Effect}
-use Rattle.machine.specs.declared.words.Judgement.the-variants.{Accepted}
 use Rattle.regions.specs.Region.{regionsOf}
 use Rattle.regions.specs.Search.{grantsOf, spanHas}
 use Rattle.regions.specs.declared.Region.{Region}
@@ -25,6 +23,8 @@ use Rattle.sheet.specs.Entries.{parametersOf, itemsOf, soughtParameter, soughtI
 use Rattle.sheet.specs.declared.entries.SoughtItem.{SoughtItem}
 use Rattle.sheet.specs.declared.entries.SoughtParameter.{SoughtParameter}
 use Rattle.sheet.specs.declared.walk.Layout.{Layout}
+use Rattle.slave.specs.Exchange.{Left, exchangeOf}
+use Rattle.demands.specs.Answered.{Answered, alarmIn, linkIn}
 
 -- what an accepted command writes: nothing, or n octets from an address on, which stand in the command from an octet on
 pub data Write : Type 0 where
@@ -98,18 +98,18 @@ unfoldable pub laid : List Region → Write → List ℕ → List ℕ → List �
 laid rs Nothing command memory = memory
 laid rs (Octets address n from) command memory = putAt memory (spanPlace rs address) (part command from n)
 
--- a command is executed with its body in the reply: checks 2 to 5 accept it, and the exchange comes to that, with alarm 0. (A failed watchdog has
--- alarm 0 too, and comes to the lost state instead.)
-abbrev pub Executed : List ℕ → Layout → LinkState → Command → Type 0
-Executed s lay st c =
-    (effect : Effect) × (next : LinkState) × (judgeOf s lay st c ≡ Accepted effect next)
-    × (outcomeOf s lay st c ≡ comesTo 0 effect (counting st next (mnOf c)))
+-- a command is executed, by what a host sees: its alarm is "0 if accepted". A failed watchdog has command alarm 0 too, but lets the link fall from 3 to 2,
+-- and no executed command does.
+pub record Executed (st : LinkState) (l : Left) : Type 0 where
+  pub no-alarm : alarmIn (l .reply) ≡ 0
+  pub not-lost : st .link ≡ 3 → linkIn (l .state) ≡ 2 → ⊥
 
 -- "A command is accepted exactly when document 01 accepts it: state, format, span, rights."
 abbrev pub AcceptanceIsExact : Type 0
 AcceptanceIsExact =
-    (s : List ℕ) (lay : Layout) (st : LinkState) (c : Command)
-    → (acceptedOf s lay st c ≡ true → Executed s lay st c) × (Executed s lay st c → acceptedOf s lay st c ≡ true)
+    (sheet state memory command reply : List ℕ) (lay : Layout) (st : LinkState) → Answered sheet state memory command reply lay st
+    → (acceptedOf sheet lay st (commandOf command) ≡ true → Executed st (exchangeOf sheet state memory command reply))
+    × (Executed st (exchangeOf sheet state memory command reply) → acceptedOf sheet lay st (commandOf command) ≡ true)
 
 -- a span has a right exactly where every octet of it has
 abbrev pub RightsOverWholeSpan : Type 0

@@ -5,18 +5,21 @@ use mathlib.Core.Path.{_≡_}
 use Rattle.slave.specs.Exchange.{Left}
 use Rattle.demands.specs.Accepted.{AcceptanceIsExact, RightsOverWholeSpan}
 use Rattle.demands.specs.Bench.{SheetPIsValid, BenchCases}
+use Rattle.demands.specs.Bodies.{BodyInTheReply}
 use Rattle.demands.specs.Hidden.{Demand3}
 use Rattle.demands.specs.Idle.{Demand2, KeepsSecrets, AgreesWhereReached, refusesAll, singleReply, storesNothing, echoesAfterwards, inventsRsn}
+use Rattle.demands.specs.OnTheWire.{RefusedOnTheWire}
 use Rattle.demands.specs.Refused.{RefusedChangesNothing, StatesStayValid}
 use Rattle.demands.specs.Sequences.{Call, runOf, History}
-use Rattle.demands.specs.Unique.{OneReset, OneEnable, OneExchange}
+use Rattle.demands.specs.Unique.{OneAnswers}
 use Rattle.demands.specs.Writes.{WritesOwnOctets, MemoryKeepsItsLength}
 
 -- "1. Each call answers on every input. .. A refused call gives its number and, for the sheet, the place; state, memory and reply then hold what they
--- held before." That each call answers is the promise of each function, which has no premise; the rest is here, and that a reset makes every later
--- state a valid record.
+-- held before. A command refused on the wire builds a whole reply, updates the state and stores nothing." That each call answers is the promise of each
+-- function, which has no premise; the rest is here, and that a reset makes every later state a valid record.
 pub record FirstDemand : Type 0 where
   pub a-refused-call-changes-nothing : RefusedChangesNothing
+  pub a-command-refused-on-the-wire : RefusedOnTheWire
   pub states-stay-valid : StatesStayValid
 
 -- "2. A command is accepted exactly when document 01 accepts it: state, format, span, rights. Reply, next state and memory are the defined ones to the
@@ -24,13 +27,12 @@ pub record FirstDemand : Type 0 where
 pub record SecondDemand : Type 0 where
   pub acceptance-is-exact : AcceptanceIsExact
   pub rights-over-the-whole-span : RightsOverWholeSpan
+  pub body-in-the-reply : BodyInTheReply
   pub over-every-sequence :
       (sheet state memory : List ℕ) (calls : List Call) (ls : List Left) → History sheet state memory calls ls → ls ≡ runOf sheet state memory calls
   pub a-write-stores-its-own-octets : WritesOwnOctets
   pub the-memory-keeps-its-length : MemoryKeepsItsLength
-  pub two-resets-are-one : OneReset
-  pub two-enables-are-one : OneEnable
-  pub two-exchanges-are-one : OneExchange
+  pub two-answers-are-one : OneAnswers
 
 -- "3. Two runs on memories that differ only in octets without the read right give the same answers, replies and states; afterwards the memories differ
 -- nowhere that they did not differ before, and agree wherever an accepted write reached."

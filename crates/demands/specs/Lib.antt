@@ -2,7 +2,10 @@
 pub mod Demands
 pub mod Refused
 pub mod Sequences
+pub mod Answered
 pub mod Accepted
+pub mod OnTheWire
+pub mod Bodies
 pub mod Writes
 pub mod Hidden
 pub mod Idle

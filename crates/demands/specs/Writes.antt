@@ -6,24 +6,15 @@ use mathlib.Core.Logic.{_⊎_}
 use mathlib.Core.Path.{_≡_}
 use lib.ListN.{length, getD}
 use Rattle.frame.specs.Fields.{commandOf}
-use Rattle.link.specs.Stored.{stateOf}
 use Rattle.link.specs.declared.state.LinkState.{LinkState}
-use Rattle.link.specs.declared.stored.Stored.the-variants.{State}
 use Rattle.regions.specs.Region.{regionsOf}
 use Rattle.regions.specs.Search.{spotOf}
 use Rattle.regions.specs.declared.search.Spot.the-variants.{At}
-use Rattle.sheet.specs.Walk.{verdictOf}
 use Rattle.sheet.specs.declared.walk.Layout.{Layout}
-use Rattle.sheet.specs.declared.walk.Verdict.the-variants.{Valid}
-use Rattle.slave.specs.Exchange.{refusalOf, exchangeOf}
+use Rattle.slave.specs.Exchange.{exchangeOf}
 use Rattle.demands.specs.Accepted.{Octets, rowOf, acceptedOf}
+use Rattle.demands.specs.Answered.{Answered}
 use Rattle.demands.specs.Sequences.{Call, Reset, Enable, Exchange, callOf}
-
--- an exchange that no number refuses: a reply is built
-pub record Answered (sheet state memory command reply : List ℕ) (lay : Layout) (st : LinkState) : Type 0 where
-  pub valid : verdictOf sheet ≡ Valid lay
-  pub held : stateOf state (lay .l) ≡ State st
-  pub free : refusalOf lay st (length memory) (length command) (length reply) ≡ 0
 
 -- an exchange's accepted write has a memory place in its span, and the command's octet for it is octet k
 pub record Wrote (sheet state memory command reply : List ℕ) (place k : ℕ) : Type 0 where

@@ -6,6 +6,7 @@
 --     valid-item        an ID item that was found has a length in range
 --     item-inside       and its octets stand inside the sheet
 --     length-least      L is at least 8
+--     same-layout       a sheet has one layout
 use mathlib.Core.Bool.{Bool, true, false, true≢false}
 use mathlib.Core.Logic.{⊎-elim}
 use mathlib.Core.Path.{_≡_, refl, sym, ap, subst, _∙_}
@@ -54,7 +55,7 @@ pub record ValidSheet (s : List ℕ) (lay : Layout) : Type 0 where
 no-fault : {f : Fault} {p : ℕ} {lay : Layout} → Faulty f p ≡ Valid lay → ⊥
 no-fault e = let z : _≡_ {A = ℕ} 0 1 = cc in omega arith
 
-same-layout : {a b : Layout} → Valid a ≡ Valid b → a ≡ b
+pub same-layout : {a b : Layout} → Valid a ≡ Valid b → a ≡ b
 same-layout e = cc
 
 module _ (s rest : List ℕ) (so : Counts) (st : Standing s rest so) (lay : Layout) where
