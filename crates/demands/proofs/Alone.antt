@@ -3,13 +3,13 @@ use mathlib.Core.Logic.{inl}
 use mathlib.Core.Path.{_≡_, refl, sym, ap, ap₂, _∙_}
 use mathlib.Core.List.{List, [], _∷_, map}
 use Prim.Native.Nat.{ℕ}
-use lib.ListN.{length, getD, set}
+use lib.ListN.{getD, set}
 use Rattle.sheet.specs.Walk.{verdictOf}
 use Rattle.sheet.specs.declared.walk.Layout.{Layout}
 use Rattle.sheet.specs.declared.walk.Verdict.the-variants.{Valid}
 use Rattle.slave.specs.Exchange.{Left, exchangeOf}
-use Rattle.demands.specs.Hidden.{Readable, DifferOnlyHidden, Seen, seen}
-use Rattle.demands.specs.Idle.{Program, KeepsSecrets, AgreesWhereReached, refusesAll, singleReply, storesNothing, echoes, echoesAfterwards, inventing, inventsRsn}
+use Rattle.demands.specs.Hidden.{DifferOnlyHidden, Seen, seen}
+use Rattle.demands.specs.Idle.{KeepsSecrets, AgreesWhereReached, refusesAll, singleReply, storesNothing, echoes, echoesAfterwards, inventing, inventsRsn}
 use Rattle.demands.specs.Sequences.{Call, Reset, Enable, Exchange, callOf, runOf, lastMemory}
 use Rattle.demands.proofs.Secrets.{call-kept, demand-3}
 

@@ -1,10 +1,9 @@
 -- Whoever makes calls that each meet their promise has what the defined run says.
-use mathlib.Core.Path.{_≡_, refl, ap, ap₂, subst, _∙_}
-use mathlib.Core.List.{List, [], _∷_}
+use mathlib.Core.Path.{_≡_, refl, ap, _∙_}
+use mathlib.Core.List.{List, _∷_}
 use Prim.Native.Nat.{ℕ}
-use Rattle.slave.specs.Calls.{After, after, resetOf, enableOf}
-use Rattle.slave.specs.Exchange.{Left, left, exchangeOf}
-use Rattle.demands.specs.Sequences.{Call, Reset, Enable, Exchange, beside, callOf, runOf, Meets, History, start, next}
+use Rattle.slave.specs.Exchange.{Left, left}
+use Rattle.demands.specs.Sequences.{Call, Reset, Enable, Exchange, callOf, runOf, Meets, History, start, next}
 
 -- two lefts that meet one promise are what the defined call leaves
 met : (sheet state memory : List ℕ) (c : Call) (l : Left) → Meets sheet state memory c l → l ≡ callOf sheet state memory c

@@ -1,25 +1,20 @@
 -- The memory after an exchange, by acceptance.
-use mathlib.Core.Bool.{Bool, true, false, not, _&&_, _||_, and-eq-true-iff, false≢true, true≢false}
-use mathlib.Core.Logic.{⊎-elim}
-use mathlib.Core.Path.{_≡_, refl, sym, ap, subst, _∙_}
+use mathlib.Core.Bool.{Bool, true, false, not, _&&_, _||_, and-eq-true-iff}
+use mathlib.Core.Path.{_≡_, refl, ap, subst, _∙_}
 use mathlib.Core.List.{List}
-use Prim.Native.Nat.{ℕ, _+_, _-_, _*_, _≤_, _<_}
+use Prim.Native.Nat.{ℕ, _+_, _-_, _*_, _≤_}
 use native.Mathlib.Omega.{arith}
 use borrow.Author.Tests.{eqb-true, eqb-false, leb-true, not-true}
 use lib.Dec.{eqb, leb}
-use lib.ListN.{length}
 use Rattle.octets.specs.Pick.{pick}
-use Rattle.octets.proofs.Cases.{decided}
 use Rattle.octets.proofs.Pick.{pick-yes, pick-no, pick-same, pick-both}
 use Rattle.frame.specs.Body.{memoryAfter}
 use Rattle.frame.specs.Fields.{commandOf}
 use Rattle.link.specs.Steps.{followsOf}
 use Rattle.link.specs.declared.state.LinkState.{LinkState}
 use Rattle.machine.specs.Codes.{isKnown, isAllowed}
-use Rattle.machine.specs.Connecting.{comModFits, comTimeFits}
 use Rattle.machine.specs.Judging.{elementOf, judgeOf}
 use Rattle.machine.specs.Outcomes.{finished, outcomeOf}
-use Rattle.machine.specs.Spans.{rightOf}
 use Rattle.machine.specs.declared.words.Command.{Command}
 use Rattle.machine.specs.declared.words.Judgement.{Judgement}
 use Rattle.machine.specs.declared.words.Judgement.the-variants.{Refused, Accepted}
@@ -34,7 +29,7 @@ use Rattle.sheet.specs.declared.walk.Layout.{Layout}
 use Rattle.sheet.proofs.Valid.{ValidSheet, valid-parameter, length-least}
 use Rattle.slave.specs.Exchange.{Left, exchanged, exchangeOf}
 use Rattle.slave.proofs.Order.{on-valid, on-state}
-use Rattle.demands.specs.Accepted.{Write, Nothing, Octets, Row, row, written, spanFits, parameterRow, itemRow, memoryRow, rowOf, acceptedOf, laid}
+use Rattle.demands.specs.Accepted.{Nothing, Octets, Row, row, written, parameterRow, itemRow, memoryRow, rowOf, acceptedOf, laid}
 use Rattle.demands.specs.Answered.{Answered}
 use Rattle.demands.proofs.Rows.{memoryBy, judge-by}
 

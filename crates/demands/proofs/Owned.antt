@@ -1,13 +1,11 @@
 -- A write stores its own octets and no others.
-use mathlib.Core.Bool.{Bool, true, false, not}
+use mathlib.Core.Bool.{true}
 use mathlib.Core.Logic.{⊎-elim}
 use mathlib.Core.Path.{_≡_, refl, sym, ap, subst, _∙_}
 use mathlib.Core.List.{List}
 use Prim.Native.Nat.{ℕ, _+_, _-_, _≤_, _<_}
-use native.Mathlib.Nat.{le-refl}
 use native.Mathlib.Omega.{arith}
 use borrow.Author.Tests.{eqb-true, not-false}
-use lib.Dec.{eqb}
 use lib.ListN.{length, getD}
 use Rattle.octets.specs.Parts.{part, putAt}
 use Rattle.octets.proofs.Cases.{decided, lt-or-le}
@@ -15,21 +13,21 @@ use Rattle.octets.proofs.Pick.{pick-yes, pick-no, pick-cases}
 use Rattle.frame.specs.Fields.{commandOf}
 use Rattle.link.specs.Stored.{stateOf}
 use Rattle.link.specs.declared.state.LinkState.{LinkState}
-use Rattle.machine.specs.Spans.{placeIn, spanPlace}
+use Rattle.machine.specs.Spans.{spanPlace}
 use Rattle.regions.specs.Region.{regionsOf}
-use Rattle.regions.specs.Search.{totalOf, spotOf, spanHas}
+use Rattle.regions.specs.Search.{spotOf, spanHas}
 use Rattle.regions.specs.declared.Right.the-variants.{Mapped}
 use Rattle.regions.specs.declared.search.Spot.the-variants.{At}
 use Rattle.regions.proofs.Places.{spot-inside}
 use Rattle.sheet.specs.Walk.{verdictOf}
 use Rattle.sheet.specs.declared.walk.Layout.{Layout}
-use Rattle.sheet.proofs.Valid.{ValidSheet, valid-sheet, valid-apart}
-use Rattle.slave.specs.Exchange.{Left, exchanged, exchangeOf}
+use Rattle.sheet.proofs.Valid.{valid-sheet, valid-apart}
+use Rattle.slave.specs.Exchange.{Left, exchangeOf}
 use Rattle.slave.proofs.Order.{no-refusal}
 use Rattle.demands.specs.Accepted.{Write, Nothing, Octets, rowOf, acceptedOf, laid}
 use Rattle.demands.specs.Answered.{Answered}
 use Rattle.demands.specs.Writes.{Wrote, WritesOwnOctets}
-use Rattle.demands.proofs.Lists.{put-before, put-inside, put-behind, put-length, part-length, part-at}
+use Rattle.demands.proofs.Lists.{put-before, put-inside, put-behind, part-length, part-at}
 use Rattle.demands.proofs.Memories.{exchange-memory, row-sound, accepted-row, answered-is}
 use Rattle.demands.proofs.Refusals.{by-sheet, by-state}
 use Rattle.demands.proofs.Shown.{places-from}

@@ -1,10 +1,10 @@
 -- Demand 1 over the calls: a refused call changes nothing; and behind a reset every state is a valid record.
-use mathlib.Core.Bool.{Bool, true, false, not}
-use mathlib.Core.Path.{_≡_, refl, sym, ap, subst, _∙_}
+use mathlib.Core.Bool.{not}
+use mathlib.Core.Path.{_≡_, refl}
 use mathlib.Core.List.{List, [], _∷_}
 use Prim.Native.Nat.{ℕ, _≤_}
 use native.Mathlib.Omega.{arith}
-use borrow.Author.Tests.{eqb-true, eqb-false, eq-eqb, not-false}
+use borrow.Author.Tests.{eqb-true, not-false}
 use lib.Dec.{eqb}
 use lib.ListN.{length}
 use Rattle.octets.proofs.Pick.{pick-both, pick-cases}
@@ -17,7 +17,6 @@ use Rattle.link.specs.declared.stored.Stored.the-variants.{State, Invalid}
 use Rattle.link.proofs.Back.{read-back, read-valid}
 use Rattle.link.proofs.Facts.{Facts}
 use Rattle.link.proofs.Keeps.{fresh-valid, enabled-valid}
-use Rattle.machine.specs.Outcomes.{outcomeOf}
 use Rattle.sheet.specs.Walk.{verdictOf}
 use Rattle.sheet.specs.Faults.{numberOf}
 use Rattle.sheet.specs.declared.records.Fault.{Fault}
@@ -25,13 +24,13 @@ use Rattle.sheet.specs.declared.records.Fault.the-variants.{Ended, Unknown, Mis
 use Rattle.sheet.specs.declared.walk.Layout.{Layout}
 use Rattle.sheet.specs.declared.walk.Verdict.{Verdict}
 use Rattle.sheet.specs.declared.walk.Verdict.the-variants.{Valid, Faulty}
-use Rattle.slave.specs.Answers.{told, sheetAnswer, onSheet, onState}
-use Rattle.slave.specs.Calls.{After, after, resetOf, enableOf}
-use Rattle.slave.specs.Exchange.{Left, left, refusalOf, exchanged, exchangeOf}
+use Rattle.slave.specs.Answers.{sheetAnswer, onSheet, onState}
+use Rattle.slave.specs.Calls.{After, resetOf, enableOf}
+use Rattle.slave.specs.Exchange.{Left, exchanged, exchangeOf}
 use Rattle.slave.specs.declared.answers.Answer.{Answer}
 use Rattle.slave.proofs.Order.{no-refusal}
 use Rattle.demands.specs.Sequences.{Call, Reset, Enable, Exchange, beside, callOf, runOf}
-use Rattle.demands.specs.Refused.{lentReply, Unchanged, RefusedChangesNothing, ValidRecord, EachState, StatesStayValid}
+use Rattle.demands.specs.Refused.{Unchanged, RefusedChangesNothing, ValidRecord, EachState, StatesStayValid}
 use Rattle.demands.proofs.States.{outcome-valid}
 
 -- what holds of every refusal and of every answer that goes on, holds of the call

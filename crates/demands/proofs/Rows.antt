@@ -1,15 +1,13 @@
 -- The machine goes by the table: a judgement is an acceptance exactly where its row fits, and leaves the memory that the row says.
-use mathlib.Core.Bool.{Bool, true, false, not, _&&_, _||_, and-true}
+use mathlib.Core.Bool.{Bool, true, false, not, _&&_, and-true}
 use mathlib.Core.Logic.{⊎-elim}
 use mathlib.Core.Path.{_≡_, refl, sym, ap, subst, _∙_}
 use mathlib.Core.List.{List}
-use Prim.Native.Nat.{ℕ, _+_, _-_, _*_, _≤_, _<_}
-use native.Mathlib.Omega.{arith}
+use Prim.Native.Nat.{ℕ, _+_, _-_, _*_}
 use borrow.Author.Tests.{ltb-true, ltb-false, le-leb, lt-leb}
 use lib.Dec.{eqb, ltb, leb}
 use Rattle.octets.specs.Pick.{pick}
 use Rattle.octets.proofs.Cases.{decided}
-use Rattle.octets.proofs.Pick.{pick-yes, pick-no}
 use Rattle.frame.specs.Body.{dataFrom, memoryAfter}
 use Rattle.link.specs.declared.state.LinkState.{LinkState}
 use Rattle.machine.specs.Codes.{isKnown, isAllowed}
@@ -20,7 +18,6 @@ use Rattle.machine.specs.declared.words.Carrier.{Carrier}
 use Rattle.machine.specs.declared.words.Carrier.the-variants.{Parameter, Memory}
 use Rattle.machine.specs.declared.words.Command.{Command}
 use Rattle.machine.specs.declared.words.Effect.{Effect}
-use Rattle.machine.specs.declared.words.Effect.the-variants.{Quiet, Identifies, Alarms, Connects}
 use Rattle.machine.specs.declared.words.Judgement.{Judgement}
 use Rattle.machine.specs.declared.words.Judgement.the-variants.{Refused, Accepted}
 use Rattle.regions.specs.Region.{regionsOf}
@@ -30,7 +27,7 @@ use Rattle.regions.specs.declared.Right.the-variants.{Mapped}
 use Rattle.sheet.specs.declared.entries.SoughtItem.{SoughtItem}
 use Rattle.sheet.specs.declared.entries.SoughtParameter.{SoughtParameter}
 use Rattle.sheet.specs.declared.walk.Layout.{Layout}
-use Rattle.demands.specs.Accepted.{Write, Nothing, Octets, Row, row, written, spanFits, parameterRow, itemRow, memoryRow, rowOf, laid}
+use Rattle.demands.specs.Accepted.{Write, Nothing, Row, row, written, spanFits, parameterRow, itemRow, memoryRow, rowOf, laid}
 
 -- whether a judgement accepts
 abbrev pub accepts : Judgement → Bool

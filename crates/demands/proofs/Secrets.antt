@@ -1,15 +1,11 @@
 -- Demand 3: two runs on memories that differ only in octets without the read right.
-use mathlib.Core.Bool.{Bool, true, false, not}
 use mathlib.Core.Logic.{_⊎_, inl, inr, ⊎-elim}
 use mathlib.Core.Path.{_≡_, refl, sym, ap, ap₂, subst, subst₂, _∙_}
 use mathlib.Core.List.{List, [], _∷_, map}
 use Prim.Native.Nat.{ℕ, _+_, _-_, _≤_, _<_}
 use native.Mathlib.Omega.{arith}
-use borrow.Author.Tests.{eqb-true, not-false}
-use lib.Dec.{eqb}
 use lib.ListN.{length, getD}
 use Rattle.octets.specs.Parts.{part, putAt}
-use Rattle.octets.specs.Pick.{pick}
 use Rattle.octets.proofs.Cases.{eq-or-ne, lt-or-le}
 use Rattle.octets.proofs.Pick.{pick-differ}
 use Rattle.frame.specs.Body.{dataFrom, carried, bodyOf, replyOf, memoryAfter, Fitting}
@@ -25,12 +21,12 @@ use Rattle.sheet.specs.Walk.{verdictOf}
 use Rattle.sheet.specs.declared.walk.Layout.{Layout}
 use Rattle.sheet.specs.declared.walk.Verdict.the-variants.{Valid}
 use Rattle.sheet.proofs.Valid.{ValidSheet, valid-sheet, same-layout}
-use Rattle.slave.specs.Answers.{told, onState}
+use Rattle.slave.specs.Answers.{told}
 use Rattle.slave.specs.Exchange.{Left, left, refusalOf, exchanged, exchangeOf}
 use Rattle.slave.proofs.Fits.{outcome-fits}
 use Rattle.slave.proofs.Order.{on-valid, on-invalid, on-state, no-refusal}
 use Rattle.demands.specs.Answered.{Answered}
-use Rattle.demands.specs.Hidden.{Readable, DifferOnlyHidden, Seen, seen, Demand3}
+use Rattle.demands.specs.Hidden.{Readable, Seen, seen, Demand3}
 use Rattle.demands.specs.Sequences.{Call, Reset, Enable, Exchange, callOf, runOf, lastMemory}
 use Rattle.demands.specs.Writes.{Wrote, ReachedBy, Reached}
 use Rattle.demands.proofs.Lists.{put-before, put-inside, put-behind, put-length, part-length, part-same}

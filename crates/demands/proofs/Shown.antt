@@ -1,8 +1,8 @@
 -- Whatever the machine reads of the memory has the read right.
-use mathlib.Core.Bool.{Bool, true, false, not}
-use mathlib.Core.Path.{_≡_, refl, sym, ap, subst, _∙_}
+use mathlib.Core.Bool.{Bool, true, false}
+use mathlib.Core.Path.{_≡_, sym, ap, subst, _∙_}
 use mathlib.Core.List.{List}
-use Prim.Native.Nat.{ℕ, _+_, _-_, _*_, _≤_, _<_}
+use Prim.Native.Nat.{ℕ, _+_, _*_, _<_}
 use native.Mathlib.Nat.{le-refl}
 use native.Mathlib.Omega.{arith}
 use borrow.Author.Tests.{eqb-true, not-false}
@@ -20,11 +20,10 @@ use Rattle.machine.specs.declared.words.Judgement.{Judgement}
 use Rattle.machine.specs.declared.words.Judgement.the-variants.{Refused, Accepted}
 use Rattle.machine.specs.declared.words.Outcome.{Outcome}
 use Rattle.regions.specs.Apart.{Apart}
-use Rattle.regions.specs.Region.{regionsOf, givesOf}
-use Rattle.regions.specs.Search.{spotOf, grantsOf, beforeOf, spanHas}
+use Rattle.regions.specs.Region.{regionsOf}
+use Rattle.regions.specs.Search.{beforeOf, spanHas}
 use Rattle.regions.specs.declared.Region.{Region}
 use Rattle.regions.specs.declared.Right.the-variants.{Mapped, Read}
-use Rattle.regions.specs.declared.search.Spot.the-variants.{At}
 use Rattle.regions.proofs.Places.{Stands, spot-rights, mapped-spot, span-places}
 use Rattle.regions.proofs.Spans.{all-before}
 use Rattle.sheet.specs.declared.entries.SoughtItem.{SoughtItem}

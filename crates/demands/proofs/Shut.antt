@@ -31,8 +31,8 @@ use Rattle.slave.specs.Answers.{sheetAnswer, onSheet, onState}
 use Rattle.slave.specs.Exchange.{refusalOf, exchanged, exchangeOf}
 use Rattle.slave.specs.Answers.{told}
 use Rattle.slave.specs.Exchange.{Left, left}
-use Rattle.demands.specs.Bench.{sheetP, stateA, memoryP, old, Case, case1, case2, case4, case7, case10a}
-use Rattle.demands.specs.Idle.{Program, Demand2, refusesAll, singleReply, storesNothing, echoes, echoesAfterwards, inventsRsn}
+use Rattle.demands.specs.Bench.{sheetP, memoryP, old, Case, case1, case2, case4, case7, case10a}
+use Rattle.demands.specs.Idle.{Demand2, refusesAll, singleReply, storesNothing, echoes, echoesAfterwards, inventsRsn}
 use Rattle.demands.specs.Sequences.{Call, Exchange, callOf, runOf}
 
 -- a case as a call

@@ -1,21 +1,21 @@
 -- Every outcome's next state is valid.
 use mathlib.Core.Bool.{Bool, true, false, not, _&&_, _||_, and-eq-true-iff, false≢true}
 use mathlib.Core.Logic.{⊎-elim}
-use mathlib.Core.Path.{_≡_, refl, sym, ap, subst, _∙_}
+use mathlib.Core.Path.{_≡_, refl, sym, _∙_}
 use mathlib.Core.List.{List}
-use Prim.Native.Nat.{ℕ, _+_, _/_, _%_, _≤_, _<_}
+use Prim.Native.Nat.{ℕ, _/_, _%_, _≤_}
 use native.Mathlib.Omega.{arith}
-use borrow.Author.Tests.{eqb-true, eqb-false, leb-true, ne-eqb, not-false}
+use borrow.Author.Tests.{eqb-true, leb-true, ne-eqb, not-false}
 use lib.Dec.{eqb, leb}
 use Rattle.octets.specs.Pick.{pick}
-use Rattle.octets.proofs.Cases.{decided, eq-or-ne}
+use Rattle.octets.proofs.Cases.{eq-or-ne}
 use Rattle.octets.proofs.Pick.{pick-both, pick-cases, pick-eq, pick-ne, pick-key}
-use Rattle.link.specs.Steps.{followsOf, latched, counted, connected}
+use Rattle.link.specs.Steps.{followsOf, connected}
 use Rattle.link.specs.Valid.{isCommandAlarm}
 use Rattle.link.specs.declared.state.LinkState.{LinkState}
 use Rattle.link.proofs.Facts.{Facts}
 use Rattle.link.proofs.Keeps.{connected-valid, synced-valid, dropped-valid, lost-valid, latched-valid, cleared-valid, counted-valid}
-use Rattle.machine.specs.Codes.{isKnown, isAllowed}
+use Rattle.machine.specs.Codes.{isAllowed}
 use Rattle.machine.specs.Connecting.{synchronous, transfer, comModFits, comTimeFits, connectOf}
 use Rattle.machine.specs.Judging.{parameterData, parameterOf, itemData, itemOf, alarmsOf, clearOf, memoryOf, dataOf, judgeOf}
 use Rattle.machine.specs.Outcomes.{mnOf, counting, finished, outcomeOf}

@@ -1,4 +1,4 @@
--- What the owner reads: Demands is the page to begin with; the others are in the order in which it cites them.
+-- What the owner reads: Demands is the page to begin with; the others are in the order to read them.
 pub mod Demands
 pub mod Refused
 pub mod Sequences
