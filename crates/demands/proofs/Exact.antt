@@ -7,7 +7,7 @@ use borrow.Author.Tests.{eqb-true, eq-eqb}
 use Rattle.frame.specs.Fields.{commandOf}
 use Rattle.link.specs.declared.state.LinkState.{LinkState}
 use Rattle.machine.specs.declared.words.Outcome.{Outcome}
-use Rattle.regions.proofs.Reach.{all-before, before-all}
+use Rattle.regions.proofs.Spans.{all-before, before-all}
 use Rattle.sheet.specs.declared.walk.Layout.{Layout}
 use Rattle.slave.specs.Exchange.{exchangeOf}
 use Rattle.demands.specs.Accepted.{Executed, AcceptanceIsExact, RightsOverWholeSpan}
