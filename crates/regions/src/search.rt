@@ -49,6 +49,7 @@ fn passed(sheet: &[u8], regions: u8, address: u64) -> u8
     i
 }
 
+// The later of two addresses.
 fn later(a: u64, b: u64) -> u64
     ensures { λ r. ⌜ r ≡ pick (ltb a b) b a ⌝ }
 {
@@ -94,7 +95,7 @@ fn short_of(to: u64, address: u32, size: u8) -> u8
 }
 
 // How many octets of a span come before the first that lacks the right: octets outside, regions inside. What a region has of the span is passed at
-// once, and over regions that are apart no region is looked at twice.
+// once, and over regions that are apart the search never goes back.
 pub fn before(sheet: &[u8], regions: u8, right: Right, address: u32, size: u8) -> u8
     requires { ⌜ Laid (now sheet) regions ⌝ }
     ensures { λ r. ⌜ r ≡ beforeOf (regionsOf (now (sheet .entry)) regions) right address size ⌝ }

@@ -32,11 +32,11 @@ parameterOf s rest so =
     judgedParameter (parameterFrom rest 0) (leastNumber s so)
     (spanHas (regionsOf s (so .regions)) Mapped (parameterFrom rest 0 .address) (parameterFrom rest 0 .size)) so
 
--- kind 04
--- the item's octets past its length, up to the record's end
+-- an ID item's octets past its length, up to the record's end
 abbrev pub tailOf : List ℕ → List ℕ
 tailOf rest = take (32 - getD rest 2 0) (drop (3 + getD rest 2 0) rest)
 
+-- kind 04
 unfoldable pub itemOf : List ℕ → List ℕ → Counts → Reading
 itemOf s rest so = judgedItem (itemFrom rest 0) (allZero (tailOf rest)) (leastCode s so) so
 
