@@ -18,6 +18,10 @@ use Rattle.sheet.specs.declared.records.Fault.the-variants.{Ended, Unkno
 use Rattle.sheet.specs.declared.records.Reading.{Reading}
 use Rattle.sheet.specs.declared.records.Reading.the-variants.{Record, Bad}
 
+-- a record of n octets that the sheet's end cuts short is fault 11
+abbrev pub whole : ℕ → List ℕ → Reading → Reading
+whole n rest r = pick (ltb (length rest) n) (Bad Ended) r
+
 -- kind 01: L is one of the five; version and profile are free
 unfoldable pub linkOf : List ℕ → Counts → Reading
 linkOf rest so = pick (not (isLength (getD rest 1 0))) (Bad Range) (Record 4 so)
@@ -55,5 +59,5 @@ recordOf s rest so =
     pick (eqb (length rest) 0) (Bad Ended)
     (pick (ltb 4 (getD rest 0 0)) (Bad Unknown)
     (pick (misplacedOf (eqb (length rest) (length s)) (getD rest 0 0) so) (Bad Misplaced)
-    (pick (ltb (length rest) (sizeOf (getD rest 0 0))) (Bad Ended)
+    (whole (sizeOf (getD rest 0 0)) rest
     (bodyOf (getD rest 0 0) s rest so))))

@@ -1,28 +1,15 @@
-// The kinds of record: the size of each, where each may stand, and what its order is held against.
+// The kinds of record: where each may stand, and what its order is held against.
 use crate::records::Counts;
 ghost use mathlib.Core.Path.{_≡_};
 ghost use Prim.Native.Nat.{_+_, _-_, _*_, _≤_};
 ghost use lib.ListN.{length};
-ghost use Rattle.sheet.specs.Kinds.{sizeOf, isLength, misplacedOf, endBefore, leastNumber, leastCode};
+ghost use Rattle.sheet.specs.Kinds.{isLength, misplacedOf, endBefore, leastNumber, leastCode};
 
 // Whether a PDU length is one of the five.
 pub fn is_length(l: u8) -> bool
     ensures { λ r. ⌜ r ≡ isLength l ⌝ }
 {
     (l == 8) | (l == 16) | (l == 32) | (l == 48) | (l == 64)
-}
-
-// The octets of a record of a known kind, its kind octet among them.
-pub fn size_of(kind: u8) -> u8
-    ensures { λ r. ⌜ r ≡ sizeOf kind ⌝ }
-{
-    match kind {
-        0 => 1,
-        1 => 4,
-        2 => 10,
-        3 => 8,
-        _ => 35,
-    }
 }
 
 // Whether a known kind is out of place: at the front all but the link record, behind it the link record and what should come before.

@@ -8,11 +8,14 @@ ghost use lib.ListN.{length, take, drop};
 ghost use Rattle.octets.specs.Parts.{allZero};
 ghost use Rattle.sheet.specs.Kinds.{sizeOf};
 ghost use Rattle.sheet.specs.Sound.{Counted};
-ghost use Rattle.sheet.specs.Reading.{linkOf, regionOf, parameterOf, itemOf, bodyOf, recordOf};
+ghost use Rattle.sheet.specs.Reading.{whole, linkOf, regionOf, parameterOf, itemOf, bodyOf, recordOf};
 
 fn read_link(rest: &[u8], so: Counts) -> Reading
-    ensures { λ r. ⌜ r ≡ linkOf (now (rest .entry)) so ⌝ }
+    ensures { λ r. ⌜ r ≡ whole 4 (now (rest .entry)) (linkOf (now (rest .entry)) so) ⌝ }
 {
+    if rest.len() < 4 {
+        return Reading::Bad(Fault::Ended);
+    }
     if !crate::kinds::is_length(octets::octet(rest, 1)) {
         return Reading::Bad(Fault::Range);
     }
@@ -20,9 +23,12 @@ fn read_link(rest: &[u8], so: Counts) -> Reading
 }
 
 fn read_region(sheet: &[u8], rest: &[u8], so: Counts) -> Reading
-    requires { ⌜ (10 ≤ length (now rest)) × Counted (now sheet) so ⌝ }
-    ensures { λ r. ⌜ r ≡ regionOf (now (sheet .entry)) (now (rest .entry)) so ⌝ }
+    requires { ⌜ Counted (now sheet) so ⌝ }
+    ensures { λ r. ⌜ r ≡ whole 10 (now (rest .entry)) (regionOf (now (sheet .entry)) (now (rest .entry)) so) ⌝ }
 {
+    if rest.len() < 10 {
+        return Reading::Bad(Fault::Ended);
+    }
     crate::judging::judge_region(
         regions::region_in(rest, 0),
         crate::kinds::end_before(sheet, so),
@@ -31,9 +37,12 @@ fn read_region(sheet: &[u8], rest: &[u8], so: Counts) -> Reading
 }
 
 fn read_parameter(sheet: &[u8], rest: &[u8], so: Counts) -> Reading
-    requires { ⌜ (8 ≤ length (now rest)) × Counted (now sheet) so ⌝ }
-    ensures { λ r. ⌜ r ≡ parameterOf (now (sheet .entry)) (now (rest .entry)) so ⌝ }
+    requires { ⌜ Counted (now sheet) so ⌝ }
+    ensures { λ r. ⌜ r ≡ whole 8 (now (rest .entry)) (parameterOf (now (sheet .entry)) (now (rest .entry)) so) ⌝ }
 {
+    if rest.len() < 8 {
+        return Reading::Bad(Fault::Ended);
+    }
     let parameter = crate::entries::parameter_in(rest, 0);
     let inside = regions::search::covers(sheet, so.regions, parameter.address, parameter.size);
     crate::judging::judge_parameter(parameter, crate::kinds::least_number(sheet, so), inside, so)
@@ -52,18 +61,20 @@ fn tail_is_zero(rest: &[u8], own: u8) -> bool
 }
 
 fn read_item(sheet: &[u8], rest: &[u8], so: Counts) -> Reading
-    requires { ⌜ 35 ≤ length (now rest) ⌝ }
-    ensures { λ r. ⌜ r ≡ itemOf (now (sheet .entry)) (now (rest .entry)) so ⌝ }
+    ensures { λ r. ⌜ r ≡ whole 35 (now (rest .entry)) (itemOf (now (sheet .entry)) (now (rest .entry)) so) ⌝ }
 {
+    if rest.len() < 35 {
+        return Reading::Bad(Fault::Ended);
+    }
     let item = crate::entries::item_from(rest, 0);
     let tail = tail_is_zero(rest, item.length);
     crate::judging::judge_item(item, tail, crate::kinds::least_code(sheet, so), so)
 }
 
-// A whole record of a known kind in its place.
+// A record of a known kind in its place. Each kind's own reading looks whether the record is whole, so that the kind is asked once.
 fn read_body(kind: u8, sheet: &[u8], rest: &[u8], so: Counts) -> Reading
-    requires { ⌜ (sizeOf kind ≤ length (now rest)) × Counted (now sheet) so ⌝ }
-    ensures { λ r. ⌜ r ≡ bodyOf kind (now (sheet .entry)) (now (rest .entry)) so ⌝ }
+    requires { ⌜ (1 ≤ length (now rest)) × Counted (now sheet) so ⌝ }
+    ensures { λ r. ⌜ r ≡ whole (sizeOf kind) (now (rest .entry)) (bodyOf kind (now (sheet .entry)) (now (rest .entry)) so) ⌝ }
 {
     match kind {
         0 => Reading::Record(1, so),
@@ -88,9 +99,6 @@ pub fn read_record(sheet: &[u8], rest: &[u8], so: Counts) -> Reading
     }
     if crate::kinds::misplaced(rest.len() == sheet.len(), kind, so) {
         return Reading::Bad(Fault::Misplaced);
-    }
-    if rest.len() < crate::kinds::size_of(kind) as usize {
-        return Reading::Bad(Fault::Ended);
     }
     read_body(kind, sheet, rest, so)
 }

@@ -1,72 +1,62 @@
 -- `sheet::reading::read_body` meets its contract, kind by kind.
-use Prim.Native.Nat.{ℕ, _≤_}
-use mathlib.Core.Path.{refl, sym, subst, _∙_}
+use Prim.Native.Nat.{ℕ}
+use mathlib.Core.Path.{refl, sym, ap₂, _∙_}
 use borrow.Author.Needs.{needs}
-use lib.ListN.{length}
-use Rattle.octets.proofs.Pick.{pick-eq, pick-ne, pick-key}
+use Rattle.octets.proofs.Pick.{pick-eq, pick-ne, pick-key, pick-ge}
 use Rattle.sheet.specs.Kinds.{sizeOf}
-use Rattle.sheet.specs.Reading.{bodyOf}
+use Rattle.sheet.specs.Reading.{whole, bodyOf}
+use Rattle.sheet.specs.declared.records.Reading.{Reading}
 use Rattle.sheet.proofs.reading.read_body.Statement.{statement}
 use Rattle.sheet.proofs.reading.read_body.Tie as tie
 
-read-region-requires : tie.Need-read-region-requires
-unfolding sizeOf
-read-region-requires c κs =
-    let e = pick-key 0 _ _ (c .match .keys3) refl ∙ pick-key 1 _ _ (c .match .keys3) refl ∙ pick-eq _ _ (c .match .keys3) in
-    (subst (λ (m : ℕ). m ≤ length (c .before .before .before .args .rest .now)) e (c .before .before .before .pre .0), c .before .before .before .pre .1)
-
-read-parameter-requires : tie.Need-read-parameter-requires
-unfolding sizeOf
-read-parameter-requires c κs =
-    let k = c .match .keys4 in
-    let e = pick-key 0 _ _ k refl ∙ pick-key 1 _ _ k refl ∙ pick-key 2 _ _ k refl ∙ pick-eq _ _ k in
-    (subst (λ (m : ℕ). m ≤ length (c .before .before .before .args .rest .now)) e (c .before .before .before .pre .0), c .before .before .before .pre .1)
-
-read-item-requires : tie.Need-read-item-requires
-unfolding sizeOf
-read-item-requires c κs =
-    let n = c .match .rest in
-    let e = pick-ne _ _ (n .0 .0 .0 .1) ∙ pick-ne _ _ (n .0 .0 .1) ∙ pick-ne _ _ (n .0 .1) ∙ pick-ne _ _ (n .1) in
-    subst (λ (m : ℕ). m ≤ length (c .before .before .before .args .rest .now)) e (c .before .before .before .pre .0)
-
 returns : tie.Need-returns
-unfolding bodyOf
-returns c = sym (pick-eq _ _ (c .match .keys1))
+unfolding bodyOf sizeOf
+returns c =
+    let k = c .match .keys1 in
+    let p = c .before .before .before .pre .0 in
+    sym (ap₂ (λ (n : ℕ) (r : Reading). whole n (c .before .before .before .args .rest .now) r) (pick-eq _ _ k) (pick-eq _ _ k) ∙ pick-ge _ _ p)
 
 returns-2 : tie.Need-returns-2
-unfolding bodyOf
+unfolding bodyOf sizeOf
 returns-2 c =
+    let k = c .before .match .keys2 in
     c .read-link .ensures
     ∙ sym
-    (pick-key 0 _ _ (c .before .match .keys2) refl
-    ∙ pick-eq _ _ (c .before .match .keys2))
+    (ap₂ (λ (n : ℕ) (r : Reading). whole n (c .before .before .before .before .args .rest .now) r)
+    (pick-key 0 _ _ k refl ∙ pick-eq _ _ k)
+    (pick-key 0 _ _ k refl ∙ pick-eq _ _ k))
 
 returns-3 : tie.Need-returns-3
-unfolding bodyOf
+unfolding bodyOf sizeOf
 returns-3 c =
+    let k = c .before .match .keys3 in
     c .read-region .ensures
     ∙ sym
-    (pick-key 0 _ _ (c .before .match .keys3) refl
-    ∙ pick-key 1 _ _ (c .before .match .keys3) refl
-    ∙ pick-eq _ _ (c .before .match .keys3))
+    (ap₂ (λ (n : ℕ) (r : Reading). whole n (c .before .before .before .before .args .rest .now) r)
+    (pick-key 0 _ _ k refl ∙ pick-key 1 _ _ k refl ∙ pick-eq _ _ k)
+    (pick-key 0 _ _ k refl ∙ pick-key 1 _ _ k refl ∙ pick-eq _ _ k))
 
 returns-4 : tie.Need-returns-4
-unfolding bodyOf
+unfolding bodyOf sizeOf
 returns-4 c =
+    let k = c .before .match .keys4 in
     c .read-parameter .ensures
     ∙ sym
-    (pick-key 0 _ _ (c .before .match .keys4) refl
-    ∙ pick-key 1 _ _ (c .before .match .keys4) refl
-    ∙ pick-key 2 _ _ (c .before .match .keys4) refl
-    ∙ pick-eq _ _ (c .before .match .keys4))
+    (ap₂ (λ (n : ℕ) (r : Reading). whole n (c .before .before .before .before .args .rest .now) r)
+    (pick-key 0 _ _ k refl ∙ pick-key 1 _ _ k refl ∙ pick-key 2 _ _ k refl ∙ pick-eq _ _ k)
+    (pick-key 0 _ _ k refl ∙ pick-key 1 _ _ k refl ∙ pick-key 2 _ _ k refl ∙ pick-eq _ _ k))
 
 returns-5 : tie.Need-returns-5
-unfolding bodyOf
+unfolding bodyOf sizeOf
 returns-5 c =
     let n = c .before .match .rest in
-    c .read-item .ensures ∙ sym (pick-ne _ _ (n .0 .0 .0 .1) ∙ pick-ne _ _ (n .0 .0 .1) ∙ pick-ne _ _ (n .0 .1) ∙ pick-ne _ _ (n .1))
+    c .read-item .ensures
+    ∙ sym
+    (ap₂ (λ (m : ℕ) (r : Reading). whole m (c .before .before .before .before .args .rest .now) r)
+    (pick-ne _ _ (n .0 .0 .0 .1) ∙ pick-ne _ _ (n .0 .0 .1) ∙ pick-ne _ _ (n .0 .1) ∙ pick-ne _ _ (n .1))
+    (pick-ne _ _ (n .0 .0 .0 .1) ∙ pick-ne _ _ (n .0 .0 .1) ∙ pick-ne _ _ (n .0 .1) ∙ pick-ne _ _ (n .1)))
 
 pub read-body-spec : {M : Type 1} → statement M
 read-body-spec =
-    tie.close (tie.spec (λ c κs. search needs) read-region-requires read-parameter-requires read-item-requires returns returns-2 returns-3
+    tie.close (tie.spec (λ c κs. search needs) (λ c κs. search needs) (λ c κs. search needs) (λ c κs. search needs) returns returns-2 returns-3
     returns-4 returns-5)

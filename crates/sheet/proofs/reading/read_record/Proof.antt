@@ -1,8 +1,6 @@
--- `sheet::reading::read_record` meets its contract: the four checks that every record has, then the record's own.
-use Prim.Native.Nat.{ℕ, _≤_, _<_}
-use mathlib.Core.Path.{sym, subst, _∙_}
+-- `sheet::reading::read_record` meets its contract: the three checks that every record has first, then the record's own.
+use mathlib.Core.Path.{sym, _∙_}
 use borrow.Author.Needs.{needs}
-use lib.ListN.{length}
 use Rattle.octets.proofs.Pick.{pick-yes, pick-no, pick-lt, pick-ge, pick-eq, pick-ne}
 use Rattle.sheet.specs.Reading.{recordOf}
 use Rattle.sheet.proofs.reading.read_record.Statement.{statement}
@@ -30,26 +28,12 @@ returns-3 c =
 returns-4 : tie.Need-returns-4
 unfolding recordOf
 returns-4 c =
-    sym
-    (pick-ne _ _ (c .before .before .before .before .before .before .if1 .left)
-    ∙ pick-ge _ _ (c .before .before .before .before .if2 .left)
-    ∙ pick-no _ _ (sym (c .before .before .before .misplaced .ensures) ∙ c .before .before .if3 .left)
-    ∙ pick-lt _ _ (subst (λ (n : ℕ). length (c .before .before .before .before .before .before .before .before .before .args .rest .now) < n) (c .before .size-of .ensures) (c .if4 .taken)))
-
-read-body-requires : tie.Need-read-body-requires
-read-body-requires c κs = (subst (λ (n : ℕ). n ≤ length (c .before .before .before .before .before .before .before .before .before .args .rest .now)) (c .before .size-of .ensures) (c .if4 .left), c .before .before .before .before .before .before .before .before .before .pre)
-
-returns-5 : tie.Need-returns-5
-unfolding recordOf
-returns-5 c =
     c .read-body .ensures
     ∙ sym
-    (pick-ne _ _ (c .before .before .before .before .before .before .before .if1 .left)
-    ∙ pick-ge _ _ (c .before .before .before .before .before .if2 .left)
-    ∙ pick-no _ _ (sym (c .before .before .before .before .misplaced .ensures) ∙ c .before .before .before .if3 .left)
-    ∙ pick-ge _ _ (subst (λ (n : ℕ). n ≤ length (c .before .before .before .before .before .before .before .before .before .before .args .rest .now)) (c .before .before .size-of .ensures) (c .before .if4 .left)))
+    (pick-ne _ _ (c .before .before .before .before .before .if1 .left)
+    ∙ pick-ge _ _ (c .before .before .before .if2 .left)
+    ∙ pick-no _ _ (sym (c .before .before .misplaced .ensures) ∙ c .before .if3 .left))
 
 pub read-record-spec : {M : Type 1} → statement M
 read-record-spec =
-    tie.close (tie.spec returns (λ c. search needs) returns-2 (λ c κs. search needs) returns-3 (λ c κs. search needs) (λ c. search needs)
-    returns-4 read-body-requires returns-5)
+    tie.close (tie.spec returns (λ c. search needs) returns-2 (λ c κs. search needs) returns-3 (λ c κs. search needs) returns-4)
