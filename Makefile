@@ -1,5 +1,5 @@
 # Each target only calls the thing that does the work.
-.PHONY: run test kit measure soak
+.PHONY: run test kit measure soak fuzz
 
 # The bench program of document 01: proved, run on sheet P and two commands, compared with crates/bench/stdout, and shown.
 run:
@@ -22,3 +22,7 @@ measure:
 # Both engines on random sequences, as long as one wants: make soak EXCHANGES=1000000000 SEED=7
 soak:
 	peer/run compare $${EXCHANGES:-1000000000} $${SEED:-24} --progress
+
+# Both engines on octets that a fuzzer makes up, for so many seconds: make fuzz FUZZ_SECONDS=3600
+fuzz:
+	peer/fuzz/run $${FUZZ_SECONDS:-60}

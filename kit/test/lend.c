@@ -1,29 +1,20 @@
-/* Lends octet buffers to the library between fences, and checks them after. */
-#ifndef _DEFAULT_SOURCE
-#define _DEFAULT_SOURCE 1 /* mmap with MAP_ANONYMOUS is not plain C99 */
-#endif
+/* Lends octet buffers to the library, and checks them after. */
 #include "lend.h"
 #include "model.h"
+#include "place.h"
 
-#include <signal.h>
 #include <stdio.h>
-#include <stdlib.h>
 #include <string.h>
-#include <sys/mman.h>
-#include <unistd.h>
 
-#define GUARD 256u       /* guard octets on the side that has no fence */
 #define REPORTS_SHOWN 10 /* one fault often shows thousands of times */
 
 static struct {
     uint8_t given[LENT_MAX];
     uint8_t wanted[LENT_MAX];
     size_t len;
-    uint8_t *room; /* LENT_MAX and one page between two untouchable pages */
-    uint8_t *at;   /* where the library sees the buffer */
+    uint8_t *at; /* where the library sees the buffer */
 } lent[ROLES];
 
-static size_t room_len;
 static long calls, failures;
 static long answers[ASK_EXCHANGE + 1][18];
 static const char *group_name = "", *label_text = "";
@@ -33,37 +24,9 @@ static const char *const role_name[ROLES] = {
     "sheet", "state", "memory", "command", "reply"
 };
 
-/* A touched fence ends the test with words instead of a bare signal. */
-static void on_fence(int signal_number)
-{
-    static const char words[] = "FAILED: the library touched a fence in: ";
-    (void)signal_number;
-    if (write(2, words, sizeof words - 1) < 0
-        || write(2, group_name, strlen(group_name)) < 0
-        || write(2, "\n", 1) < 0)
-        _exit(3);
-    _exit(2);
-}
-
 void lend_open(void)
 {
-    const size_t page = (size_t)sysconf(_SC_PAGESIZE);
-    int r;
-
-    room_len = LENT_MAX + page;
-    for (r = 0; r < ROLES; r++) {
-        void *all = mmap(NULL, room_len + 2 * page, PROT_NONE,
-                         MAP_PRIVATE | MAP_ANONYMOUS, -1, 0);
-        if (all == MAP_FAILED
-            || mprotect((uint8_t *)all + page, room_len,
-                        PROT_READ | PROT_WRITE) != 0) {
-            perror("mmap");
-            exit(3);
-        }
-        lent[r].room = (uint8_t *)all + page;
-    }
-    signal(SIGSEGV, on_fence);
-    signal(SIGBUS, on_fence);
+    place_open(&group_name);
 }
 
 void give(enum role role, const uint8_t *octets, size_t len)
@@ -94,31 +57,6 @@ void go_on(enum role role)
     memcpy(lent[role].given, lent[role].wanted, lent[role].len);
 }
 
-static uint8_t guard_octet(size_t i)
-{
-    return (uint8_t)(0x5Au ^ i);
-}
-
-/* The guard octets lie on the side away from the fence. */
-static uint8_t *guards_of(int role, int back)
-{
-    return back ? lent[role].at - GUARD : lent[role].at + lent[role].len;
-}
-
-static void place(int role, int back)
-{
-    size_t i;
-    uint8_t *guards;
-
-    lent[role].at = lent[role].room;
-    if (back)
-        lent[role].at += room_len - lent[role].len;
-    memcpy(lent[role].at, lent[role].given, lent[role].len);
-    guards = guards_of(role, back);
-    for (i = 0; i < GUARD; i++)
-        guards[i] = guard_octet(i);
-}
-
 static int fail(const char *what, int role, size_t at)
 {
     if (failures++ < REPORTS_SHOWN)
@@ -130,13 +68,13 @@ static int fail(const char *what, int role, size_t at)
 
 static int intact(int role, int back)
 {
-    const uint8_t *guards = guards_of(role, back);
+    const long outside = changed_outside(role, back);
     size_t i;
 
-    for (i = 0; i < GUARD; i++)
-        if (guards[i] != guard_octet(i))
-            return fail("guard changed", role, i);
-    if (memcmp(lent[role].at, lent[role].wanted, lent[role].len) == 0)
+    if (outside >= 0)
+        return fail("guard changed", role, (size_t)outside);
+    if (lent[role].len == 0
+        || memcmp(lent[role].at, lent[role].wanted, lent[role].len) == 0)
         return 1;
     for (i = 0; lent[role].at[i] == lent[role].wanted[i]; i++)
         continue;
@@ -165,14 +103,6 @@ static uint64_t ask(enum which which)
     }
 }
 
-/* The const buffers are made unwritable, so even a restored write shows. */
-static void lock(int protection)
-{
-    if (mprotect(lent[SHEET].room, room_len, protection) != 0
-        || mprotect(lent[COMMAND].room, room_len, protection) != 0)
-        exit(3);
-}
-
 static int call_and_compare(enum which which, uint64_t answer, int back,
                             int locked)
 {
@@ -180,12 +110,12 @@ static int call_and_compare(enum which which, uint64_t answer, int back,
     int r, right = 1;
 
     for (r = 0; r < ROLES; r++)
-        place(r, back);
+        lent[r].at = place(r, lent[r].given, lent[r].len, back);
     if (locked)
-        lock(PROT_READ);
+        place_lock(1);
     got = ask(which);
     if (locked)
-        lock(PROT_READ | PROT_WRITE);
+        place_lock(0);
     calls++;
     if (t24_number(got) < 18)
         answers[which][t24_number(got)]++;

@@ -1,4 +1,4 @@
-/* Lends octet buffers to the library between fences, and checks them after. */
+/* Lends octet buffers to the library, and checks them after. */
 #ifndef LEND_H
 #define LEND_H
 
@@ -9,7 +9,7 @@
 enum role { SHEET, STATE, MEMORY, COMMAND, REPLY, ROLES };
 enum which { ASK_SHEET, ASK_LENGTHS, ASK_RESET, ASK_ENABLE, ASK_EXCHANGE };
 
-/* Maps the fenced places; to be called once before anything else. */
+/* Gets the places ready; to be called once before anything else. */
 void lend_open(void);
 
 /* Sets what a buffer holds before the call; afterwards it must hold the same. */
@@ -31,7 +31,7 @@ void go_on(enum role role);
 /* Makes the call and compares answer, buffers and guards; tells 1 if right. */
 int expect(enum which which, uint64_t answer);
 
-/* As expect, but the buffers stand on one side of their fences only. */
+/* As expect, but the buffers stand on one side of their places only. */
 int expect_on_side(enum which which, uint64_t answer, int back);
 
 /* As expect, with answer and buffers as the test's own model has them. */

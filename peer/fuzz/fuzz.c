@@ -1,11 +1,16 @@
 /* libFuzzer target: the archive's engine (t24_*) beside the peer's (peer_*).
  *
- * One input is cut into a sheet, a state, a seed of the memory, and commands.
- * Any difference in an answer or in what a call leaves behind, and any octet
- * changed outside a lent buffer, aborts. How to build it: see build_fuzz.
+ * One input is cut into a sheet, a state, a seed of the memory, and a sequence
+ * of calls. Any difference in an answer or in what a call leaves behind, and any
+ * octet touched outside a lent buffer, aborts. peer/fuzz/run builds and runs it.
  */
+#ifndef _DEFAULT_SOURCE
+#define _DEFAULT_SOURCE 1 /* mmap with MAP_ANONYMOUS is not plain C99 */
+#endif
+#include "commands.h"
 #include "lent.h"
-#include "parts.h"
+#include "marks.h"
+#include "sheets.h"
 
 #include <stddef.h>
 #include <stdint.h>
@@ -20,19 +25,22 @@
     uint64_t name##_enable(const uint8_t *, size_t, uint8_t *, size_t);        \
     uint64_t name##_exchange(const uint8_t *, size_t, uint8_t *, size_t,       \
                              uint8_t *, size_t, const uint8_t *, size_t,       \
-                             uint8_t *, size_t);                               \
-    uint64_t name##_replay(const uint8_t *, size_t, uint8_t *, size_t,         \
-                           uint8_t *, size_t, const uint8_t *, size_t);
+                             uint8_t *, size_t)
 
-ENGINE(t24)
-ENGINE(peer)
+ENGINE(t24);
+ENGINE(peer);
 
-enum { SIDES = 2, COMMANDS = 48 };
+int LLVMFuzzerTestOneInput(const uint8_t *octets, size_t length);
+int LLVMFuzzerInitialize(int *argc, char ***argv);
+
+enum { SIDES = 2, STEPS = 48 };
 
 /* What both engines are lent, once for each side. */
-struct rig {
+static struct rig {
     struct lent sheet[SIDES], state[SIDES], memory[SIDES];
-};
+    struct lent command[SIDES], reply[SIDES];
+    int at_end; /* on which side of the buffers the untouchable pages are */
+} rig;
 
 static void fail(const char *what, uint64_t peer, uint64_t t24)
 {
@@ -43,149 +51,171 @@ static void fail(const char *what, uint64_t peer, uint64_t t24)
 
 static void same(const char *what, const struct lent *sides)
 {
-    if (sides[0].length != sides[1].length ||
-        memcmp(sides[0].octets, sides[1].octets, sides[0].length) != 0)
+    if (sides[0].length > 0
+        && memcmp(sides[0].octets, sides[1].octets, sides[0].length) != 0)
         fail(what, 0, 0);
     if (!lent_intact(&sides[0]) || !lent_intact(&sides[1]))
         fail("octets outside", 0, 0);
 }
 
-static void check(const struct rig *rig, const char *call, uint64_t peer,
-                  uint64_t t24)
+static void check(const char *call, uint64_t peer, uint64_t t24)
 {
     if (peer != t24)
         fail(call, peer, t24);
-    same("sheet", rig->sheet);
-    same("state", rig->state);
-    same("memory", rig->memory);
+    same("sheet", rig.sheet);
+    same("state", rig.state);
+    same("memory", rig.memory);
 }
 
 static void lend_both(struct lent *sides, const uint8_t *octets, size_t length)
 {
-    lent_make(&sides[0], octets, length);
-    lent_make(&sides[1], octets, length);
+    lent_make(&sides[0], octets, length, rig.at_end);
+    lent_make(&sides[1], octets, length, rig.at_end);
 }
 
-static void free_both(struct lent *sides)
+#define SHEET(side) rig.sheet[side].octets, rig.sheet[side].length
+#define STATE(side) rig.state[side].octets, rig.state[side].length
+#define MEMORY(side) rig.memory[side].octets, rig.memory[side].length
+#define COMMAND(side) rig.command[side].octets, rig.command[side].length
+#define REPLY(side) rig.reply[side].octets, rig.reply[side].length
+
+static void ask_sheet(void)
 {
-    lent_free(&sides[0]);
-    lent_free(&sides[1]);
+    const uint64_t peer = peer_sheet(SHEET(0));
+
+    check("sheet", peer, t24_sheet(SHEET(1)));
+    check("lengths", peer_lengths(SHEET(0)), t24_lengths(SHEET(1)));
+    mark_call("sheet", peer);
 }
 
-#define SHEET(side) rig->sheet[side].octets, rig->sheet[side].length
-#define STATE(side) rig->state[side].octets, rig->state[side].length
-#define MEMORY(side) rig->memory[side].octets, rig->memory[side].length
-
-static void call_all(struct rig *rig)
+static void reset(void)
 {
-    check(rig, "sheet", peer_sheet(SHEET(0)), t24_sheet(SHEET(1)));
-    check(rig, "lengths", peer_lengths(SHEET(0)), t24_lengths(SHEET(1)));
+    const uint64_t peer = peer_reset(SHEET(0), STATE(0));
+
+    check("reset", peer, t24_reset(SHEET(1), STATE(1)));
+    mark_call("reset", peer);
 }
 
-static void reset_and_enable(struct rig *rig)
+static void enable(void)
 {
-    check(rig, "reset", peer_reset(SHEET(0), STATE(0)),
-          t24_reset(SHEET(1), STATE(1)));
-    check(rig, "enable", peer_enable(SHEET(0), STATE(0)),
-          t24_enable(SHEET(1), STATE(1)));
+    const uint64_t peer = peer_enable(SHEET(0), STATE(0));
+
+    check("enable", peer, t24_enable(SHEET(1), STATE(1)));
+    mark_call("enable", peer);
 }
 
-static void exchange(struct rig *rig, const uint8_t *octets, size_t length,
-                     size_t reply_length, struct trace *trace)
+static void exchange(const uint8_t *octets, size_t length, size_t reply_length)
 {
-    struct lent command[SIDES], reply[SIDES];
+    const uint8_t link = rig.state[0].length > 1 ? rig.state[0].octets[1] : 0;
     uint8_t old[256];
     uint64_t peer, t24;
 
     memset(old, 0x5A, sizeof old);
-    lend_both(command, octets, length);
-    lend_both(reply, old, reply_length);
-    peer = peer_exchange(SHEET(0), STATE(0), MEMORY(0), command[0].octets,
-                         length, reply[0].octets, reply_length);
-    t24 = t24_exchange(SHEET(1), STATE(1), MEMORY(1), command[1].octets, length,
-                       reply[1].octets, reply_length);
-    check(rig, "exchange", peer, t24);
-    same("command", command);
-    same("reply", reply);
+    lend_both(rig.command, octets, length);
+    lend_both(rig.reply, old, reply_length);
+    peer = peer_exchange(SHEET(0), STATE(0), MEMORY(0), COMMAND(0), REPLY(0));
+    t24 = t24_exchange(SHEET(1), STATE(1), MEMORY(1), COMMAND(1), REPLY(1));
+    check("exchange", peer, t24);
+    same("command", rig.command);
+    same("reply", rig.reply);
+    mark_call("exchange", peer);
     if (peer == 0)
-        trace_add(trace, octets, reply[0].octets, length);
-    free_both(command);
-    free_both(reply);
+        mark_exchange(octets, rig.reply[0].octets, length, link,
+                      rig.state[0].octets[1]);
 }
 
-#ifdef REPLAY
-/* Replays the exchanges from their start, with one octet changed if asked to. */
-static void replay(struct rig *rig, struct input *in, struct trace *trace)
+/* Changes one octet of the state, the same on both sides. */
+static void poke(struct input *in)
 {
-    struct lent lent[SIDES];
-    uint64_t peer, t24;
+    const size_t at = take(in);
+    const uint8_t octet = take(in);
 
-    if (trace->length > 0 && take(in) & 1)
-        trace->octets[take_16(in) % trace->length] ^= take(in);
-    if (trace->length > 0 && take(in) & 1)
-        trace->length = take_16(in) % trace->length;
-    lend_both(lent, trace->octets, trace->length);
-    peer = peer_replay(SHEET(0), STATE(0), MEMORY(0), lent[0].octets,
-                       lent[0].length);
-    t24 = t24_replay(SHEET(1), STATE(1), MEMORY(1), lent[1].octets,
-                     lent[1].length);
-    check(rig, "replay", peer, t24);
-    same("trace", lent);
-    free_both(lent);
+    for (int side = 0; side < SIDES && rig.state[side].length > 0; side++)
+        rig.state[side].octets[at % rig.state[side].length] = octet;
 }
-#endif
 
-static void run_commands(struct rig *rig, struct input *in,
-                         const struct parts *parts, struct trace *trace)
+static void exchange_step(struct input *in, const struct parts *parts,
+                          uint8_t control)
 {
     uint8_t command[256];
+    size_t length = parts->sheet[1];
+    size_t reply_length = length;
 
-    for (int count = 0; count < COMMANDS && in->left > 0; count++) {
-        uint8_t control = take(in);
-        size_t length = parts->sheet[1];
-        size_t reply_length = length;
-        make_command(in, parts, rig->state[0].octets, rig->state[0].length,
-                     control, command);
-        if (control >= 0xFC)
-            length = take(in);
-        if (control >= 0xFE)
-            reply_length = take(in);
-        exchange(rig, command, length, reply_length, trace);
+    make_command(in, parts, rig.state[0].octets, rig.state[0].length, control,
+                 command);
+    if (control >= 0xFC)
+        length = take(in);
+    if (control >= 0xFE)
+        reply_length = take(in);
+    exchange(command, length, reply_length);
+}
+
+/* One call, or a changed state. */
+static void step(struct input *in, const struct parts *parts)
+{
+    const uint8_t control = take(in);
+
+    switch (control) {
+    case 0xE0:
+        reset();
+        break;
+    case 0xE1:
+        enable();
+        break;
+    case 0xE2:
+        ask_sheet();
+        break;
+    case 0xE3:
+        poke(in);
+        break;
+    default:
+        exchange_step(in, parts, control);
     }
+}
+
+/* Lends sheet, state and memory as the input has them. */
+static void lend_all(struct input *in, struct parts *parts)
+{
+    static uint8_t memory[MEMORY_LIMIT + 300];
+    size_t length;
+
+    make_sheet(in, parts);
+    length = (size_t)(peer_lengths(parts->sheet, parts->sheet_length) >> 32);
+    make_state(in, parts);
+    make_memory(in, memory, length);
+    if (take(in) == 0xFF)
+        length = length / 2 + take(in);
+    rig.at_end = take(in) & 1;
+    lend_both(rig.sheet, parts->sheet, parts->sheet_length);
+    lend_both(rig.state, parts->state, parts->state_length);
+    lend_both(rig.memory, memory, length);
+}
+
+int LLVMFuzzerInitialize(int *argc, char ***argv)
+{
+    struct lent *all[] = {rig.sheet, rig.state, rig.memory, rig.command,
+                          rig.reply};
+
+    (void)argc;
+    (void)argv;
+    for (size_t role = 0; role < sizeof all / sizeof all[0]; role++)
+        for (int side = 0; side < SIDES; side++)
+            lent_open(&all[role][side]);
+    return 0;
 }
 
 int LLVMFuzzerTestOneInput(const uint8_t *octets, size_t length)
 {
     static struct parts parts;
-    static struct trace trace;
-    static uint8_t memory[MEMORY_LIMIT + 300];
     struct input in = {octets, length};
-    struct rig rig;
-    size_t memory_length;
 
-    make_sheet(&in, &parts);
-    memory_length = (size_t)(peer_lengths(parts.sheet, parts.sheet_length) >> 32);
-    make_state(&in, &parts);
-    make_memory(&in, memory, memory_length);
-    if (take(&in) == 0xFF)
-        memory_length = memory_length / 2 + take(&in);
-    lend_both(rig.sheet, parts.sheet, parts.sheet_length);
-    lend_both(rig.state, parts.state, parts.state_length);
-    lend_both(rig.memory, memory, memory_length);
-    call_all(&rig);
-    if (parts.start_by_reset)
-        reset_and_enable(&rig);
-    trace_start(&trace, rig.state[0].octets, rig.state[0].length);
-    run_commands(&rig, &in, &parts, &trace);
-#ifdef REPLAY
-    for (int side = 0; side < SIDES; side++) {
-        memcpy(rig.state[side].octets, trace.state, rig.state[side].length);
-        memcpy(rig.memory[side].octets, memory, memory_length);
+    lend_all(&in, &parts);
+    ask_sheet();
+    if (parts.start_by_reset) {
+        reset();
+        enable();
     }
-    replay(&rig, &in, &trace);
-#endif
-    free_both(rig.sheet);
-    free_both(rig.state);
-    free_both(rig.memory);
+    for (int count = 0; count < STEPS && in.left > 0; count++)
+        step(&in, &parts);
     return 0;
 }

@@ -1,0 +1,48 @@
+/* Tells what an input reaches, so that a corpus can be chosen by it: one line
+ * 'mark NAME' for each, if the variable FUZZ_MARKS is set. */
+#ifndef MARKS_H
+#define MARKS_H
+
+#include <stdint.h>
+#include <stdio.h>
+#include <stdlib.h>
+#include <string.h>
+
+static int telling(void)
+{
+    static int known = -1;
+
+    if (known < 0)
+        known = getenv("FUZZ_MARKS") != NULL;
+    return known;
+}
+
+/* A sheet's faults are told by the call that asks for them. */
+static void mark_call(const char *call, uint64_t answer)
+{
+    if (telling() && ((answer & 0xFF) < 11 || strcmp(call, "sheet") == 0))
+        fprintf(stderr, "mark %s_%u\n", call, (unsigned)(answer & 0xFF));
+}
+
+/* An exchange that was answered: a lost cycle, or its code with the alarm, and
+ * its L if it was an accepted read. */
+static void mark_exchange(const uint8_t *command, const uint8_t *reply,
+                          size_t length, uint8_t link_before, uint8_t link)
+{
+    static const uint8_t known[] = {0x00, 0x01, 0x02, 0x03, 0x05, 0x06,
+                                    0x0D, 0x0E, 0x0F, 0x1D, 0x1E};
+    const unsigned alarm = reply[3] & 15;
+
+    if (!telling())
+        return;
+    if (link_before == 3 && link == 2 && reply[3] >> 4 == 12)
+        fprintf(stderr, "mark lost_cycle\n");
+    else if (memchr(known, command[0], sizeof known) == NULL)
+        fprintf(stderr, "mark code_unknown_alarm_%u\n", alarm);
+    else
+        fprintf(stderr, "mark code_%02X_alarm_%u\n", command[0], alarm);
+    if (alarm == 0 && command[0] == 0x1D && link == link_before)
+        fprintf(stderr, "mark read_L%u_link_%u\n", (unsigned)length, link);
+}
+
+#endif
