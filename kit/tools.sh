@@ -42,6 +42,12 @@ need_compilers() {
     fi
 }
 
+# Checkers run on the processor at hand, whatever the kit's own is.
+need_checkers() {
+    PACKAGES="gcc libc6-dev valgrind"
+    need gcc valgrind
+}
+
 # run PROGRAM ARGUMENT...: natively, or emulated with the cross C library.
 run() {
     if [ "$NATIVE" = yes ]; then

@@ -1,5 +1,8 @@
 # Sourced by test-kit: the steps, with DIST in $dist and scratch room in $work.
-# shellcheck shell=sh disable=SC2086,SC2154 # several words, set by test-kit
+# shellcheck shell=sh disable=SC2086,SC2154,SC2046 # several words, set by test-kit
+
+UNDEFINED="-fsanitize=undefined -fno-sanitize-recover=all"
+CHECKED="valgrind -q --error-exitcode=9"
 
 test_contents() {
     say "contents"
@@ -43,40 +46,45 @@ test_boundary_in_cpp() {
     run "$work/boundary-cpp" 300000 || fail "boundary in C++"
 }
 
-# An emulator has no room for the address sanitizer's shadow, so it is left out.
-test_with_checkers() {
-    sanitize="-g -fsanitize=undefined -fno-sanitize-recover=all"
-    if [ "$NATIVE" = yes ]; then
-        sanitize="$sanitize -fsanitize=address"
-        test_with_valgrind
-    else
-        say "note: emulated, so without valgrind and the address sanitizer"
-    fi
-    say "boundary, C99, sanitizers"
-    $C $sanitize $SOURCES $LIB -o "$work/boundary-sanitized"
-    run "$work/boundary-sanitized" 20000 || fail "boundary with sanitizers"
+test_with_sanitizer() {
+    say "boundary, C99, undefined sanitizer"
+    $C -g $UNDEFINED $SOURCES $LIB -o "$work/boundary-sanitized"
+    run "$work/boundary-sanitized" 20000 || fail "boundary with sanitizer"
 }
 
-test_with_valgrind() {
-    if ! command -v valgrind >/dev/null 2>&1; then
-        say "note: valgrind is not installed, so without it"
+# With every buffer in a block of its own a checker sees an overrun of one octet.
+test_with_checkers() {
+    if [ -z "$at_hand" ]; then
+        say "note: no archive for this processor, so without valgrind and the address sanitizer"
         return
     fi
+    need_checkers
+    blocks="gcc -std=c99 -O2 -g $WARN -I$dist/include $BLOCKS"
     say "boundary, C99, valgrind"
-    $C -g $SOURCES $LIB -o "$work/boundary-valgrind"
-    valgrind -q --error-exitcode=9 "$work/boundary-valgrind" 5000 \
-        || fail "boundary under valgrind"
+    $blocks "$work/at-hand.a" -o "$work/boundary-valgrind"
+    $CHECKED "$work/boundary-valgrind" 5000 || fail "boundary under valgrind"
+    say "boundary, C99, address and undefined sanitizers"
+    $blocks $UNDEFINED -fsanitize=address "$work/at-hand.a" -o "$work/boundary-address"
+    "$work/boundary-address" 20000 || fail "boundary with the address sanitizer"
+    say "valgrind can fail"
+    $blocks spoil.c "$work/at-hand.a" $(wraps) -o "$work/spoiled-blocks"
+    must_fail "an octet written behind a reply" "Invalid write" env SPOIL=9 $CHECKED "$work/spoiled-blocks" 0
+    must_fail "an octet written before a reply" "Invalid write" env SPOIL=10 $CHECKED "$work/spoiled-blocks" 0
+    must_fail "an octet read behind a command" "Invalid read" env SPOIL=12 $CHECKED "$work/spoiled-blocks" 0
+}
+
+# wraps: the flags that put spoil.c between the test and the library.
+wraps() {
+    for name in sheet lengths reset enable exchange; do
+        printf ' -Wl,--wrap=t24_%s' "$name"
+    done
 }
 
 test_that_tests_fail() {
     say "the tests can fail"
     $C -static -DWRONG_EXPECTATION $SOURCES $LIB -o "$work/wrong"
     must_fail "a wrong expectation" FAILED run "$work/wrong" 0 stop
-    wrap=
-    for name in sheet lengths reset enable exchange; do
-        wrap="$wrap -Wl,--wrap=t24_$name"
-    done
-    $C -static $SOURCES spoil.c $LIB $wrap -o "$work/spoiled"
+    $C -static $SOURCES spoil.c $LIB $(wraps) -o "$work/spoiled"
     export SPOIL=0
     run "$work/spoiled" 9000 stop >"$work/out" || fail "unspoiled, yet fails"
     for number in 1 2 3 4 5 6 7 8 9 10 11 12 13 14 15 16; do
