@@ -15,13 +15,13 @@ kit:
 	rt staticlib type24
 	KIT_ID="$$(rt version)" kit/build target/staticlib/libtype24.a dist
 
-# Our engine beside the plain one on the same inputs.
+# Our engine beside the plain one on the same inputs, for the processor at hand: times, instructions, stack, size.
 measure:
-	peer/run measure
+	peer/figures/run
 
-# Both engines on random sequences, as long as one wants: make soak EXCHANGES=1000000000 SEED=7
+# Both engines on random sequences, as long as one wants, on the processor at hand: make soak EXCHANGES=1000000000 SEED=7
 soak:
-	peer/run compare $${EXCHANGES:-1000000000} $${SEED:-24} --progress
+	NATIVE=1 peer/run compare $${EXCHANGES:-1000000000} $${SEED:-24} --progress
 
 # Both engines on octets that a fuzzer makes up, for so many seconds: make fuzz FUZZ_SECONDS=3600
 fuzz:

@@ -4,7 +4,7 @@
 #![deny(warnings)]
 
 use peer::t24::T24;
-use peer::timing::scene::{plans, reading, usual_exchanges, Scene};
+use peer::timing::scene::table_scenes;
 use peer::timing::search::worst;
 use peer::timing::stopwatch::{agree, measure, Times};
 use peer::trial::engines::{Engine, PEER};
@@ -13,22 +13,27 @@ use std::process::ExitCode;
 const BATCHES: usize = 101;
 const ENGINES: [Engine; 2] = [PEER, T24];
 
-fn scenes() -> Vec<Scene> {
-    let plans = plans();
-    let mut scenes: Vec<Scene> = plans.iter().map(reading).collect();
-    for named in [&plans[1], &plans[3]] {
-        for link in [2, 3] {
-            scenes.extend(usual_exchanges(named, link));
-        }
-    }
-    scenes
-}
-
 fn print_row(name: &str, times: Times) {
     let [peer, t24] = times;
     let ratio = t24 / peer;
     let per_second = 1e9 / t24;
     println!("| {name} | {peer:.0} | {t24:.0} | {ratio:.2} | {per_second:.0} |");
+}
+
+/// Exchanges in a second, from the slowest to the fastest of the table.
+fn print_range(exchanges: &[Times]) {
+    let per_second = |side: usize, pick: fn(f64, f64) -> f64| {
+        let time = exchanges.iter().map(|times| times[side]).reduce(pick);
+        1e9 / time.unwrap_or(f64::NAN)
+    };
+    println!();
+    println!(
+        "Exchanges in a second on one core: t24 from {:.0} to {:.0}, peer from {:.0} to {:.0}.",
+        per_second(1, f64::max),
+        per_second(1, f64::min),
+        per_second(0, f64::max),
+        per_second(0, f64::min)
+    );
 }
 
 fn print_head() {
@@ -47,20 +52,27 @@ fn main() -> ExitCode {
             return ExitCode::from(2);
         }
     };
-    let scenes = scenes();
+    let scenes = table_scenes();
     if let Some(scene) = scenes.iter().find(|scene| !agree(&ENGINES, scene)) {
         println!("measure: the engines differ in {}", scene.name);
         return ExitCode::FAILURE;
     }
     print_head();
+    let mut exchanges = Vec::new();
     for scene in &scenes {
-        print_row(&scene.name, measure(&ENGINES, scene, batches));
+        let times = measure(&ENGINES, scene, batches);
+        print_row(&scene.name, times);
+        if scene.exchange.is_some() {
+            exchanges.push(times);
+        }
     }
     for (side, name) in ["peer", "t24"].into_iter().enumerate() {
         if let Some(worst) = worst(&ENGINES, side, batches) {
             let searched = format!("slowest of {} for {name}", worst.candidates);
             print_row(&format!("{searched}: {}", worst.scene.name), worst.times);
+            exchanges.push(worst.times);
         }
     }
+    print_range(&exchanges);
     ExitCode::SUCCESS
 }

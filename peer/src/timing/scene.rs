@@ -102,3 +102,16 @@ pub fn usual_exchanges(named: &NamedPlan, link: u8) -> Vec<Scene> {
     }
     scenes
 }
+
+/// The rows of the table: reading each sheet, and exchanges on the typical and
+/// the largest in both links.
+pub fn table_scenes() -> Vec<Scene> {
+    let plans = plans();
+    let mut scenes: Vec<Scene> = plans.iter().map(reading).collect();
+    for named in [&plans[1], &plans[3]] {
+        for link in [2, 3] {
+            scenes.extend(usual_exchanges(named, link));
+        }
+    }
+    scenes
+}

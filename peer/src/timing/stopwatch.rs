@@ -88,6 +88,11 @@ pub fn measure(engines: &[Engine; 2], scene: &Scene, batches: usize) -> Times {
     [median(ours), median(theirs)]
 }
 
+/// So many calls of one engine, for counters outside this program.
+pub fn repeat(engine: &Engine, scene: &Scene, calls: u64) {
+    Running::new(engine, scene).batch(calls);
+}
+
 /// Whether both engines leave the same reply, state and memory.
 pub fn agree(engines: &[Engine; 2], scene: &Scene) -> bool {
     let outcome = |engine| {

@@ -1,0 +1,194 @@
+/* Stack that each of the five calls takes, by number of records in the sheet:
+ * a call runs on a painted stack, and what lost its paint is counted, less what
+ * an empty function takes there. */
+#ifndef _XOPEN_SOURCE
+#define _XOPEN_SOURCE 700 /* makecontext is not plain C99 */
+#endif
+#include "sheets.h"
+
+#include <stdio.h>
+#include <stdlib.h>
+#include <string.h>
+#include <ucontext.h>
+
+#define PAINT 0xA7
+#define L 64u
+#define CALLS 5
+
+struct size {
+    const char *name;
+    unsigned regions, parameters, items, size;
+};
+
+static const struct size sizes[] = {
+    { "smallest", 0, 0, 0, 0 },   { "", 2, 2, 0, 4 },
+    { "", 4, 8, 2, 4 },           { "typical", 8, 16, 4, 4 },
+    { "", 16, 32, 8, 56 },        { "", 24, 48, 16, 56 },
+    { "largest", 32, 64, 32, 56 }
+};
+#define SIZES (sizeof sizes / sizeof sizes[0])
+
+static uint8_t painted[256 * 1024];
+static ucontext_t here, there;
+static struct built sheet;
+static uint8_t state[T24_STATE_LEN], memory[T24_MEMORY_MAX];
+static uint8_t command[L], reply[L];
+static size_t memory_len;
+static uint64_t answer;
+
+static void build(const struct size *size)
+{
+    unsigned i;
+
+    sheet.len = 0;
+    memory_len = 2048u * size->regions;
+    add_link(&sheet, L);
+    for (i = 0; i < size->regions; i++)
+        add_region(&sheet, 0x1000u + 2048u * (uint64_t)i, 2048, 7);
+    for (i = 0; i < size->parameters; i++)
+        add_parameter(&sheet, i, 0x1000u + memory_len - 56, size->size);
+    for (i = 0; i < size->items; i++)
+        add_item(&sheet, i, 32);
+    add_end(&sheet);
+}
+
+static void nothing(void) { answer = 0; }
+static void ask_sheet(void) { answer = t24_sheet(sheet.octets, sheet.len); }
+
+static void ask_lengths(void)
+{
+    answer = t24_lengths(sheet.octets, sheet.len) == 0;
+}
+
+static void ask_reset(void)
+{
+    answer = t24_reset(sheet.octets, sheet.len, state, sizeof state);
+}
+
+static void ask_enable(void)
+{
+    answer = t24_enable(sheet.octets, sheet.len, state, sizeof state);
+}
+
+static void ask_exchange(void)
+{
+    answer = t24_exchange(sheet.octets, sheet.len, state, sizeof state, memory,
+                          memory_len, command, sizeof command, reply,
+                          sizeof reply);
+}
+
+/* Octets that lost their paint while the function ran there. */
+static size_t used_by(void (*call)(void))
+{
+    size_t untouched;
+
+    memset(painted, PAINT, sizeof painted);
+    if (getcontext(&there) != 0)
+        exit(3);
+    there.uc_stack.ss_sp = painted;
+    there.uc_stack.ss_size = sizeof painted;
+    there.uc_link = &here;
+    makecontext(&there, call, 0);
+    if (swapcontext(&here, &there) != 0 || answer != 0)
+        exit(3);
+    for (untouched = 0; painted[untouched] == PAINT; untouched++)
+        continue;
+    return sizeof painted - untouched;
+}
+
+/* A command that the sheet accepts, if it has a record of each kind. */
+static void make_command(uint8_t code, const struct size *size)
+{
+    memset(command, 0, sizeof command);
+    command[0] = code;
+    command[6] = 1;
+    if (code == T24_CONNECT)
+        command[4] = 0x30;
+    if (code == T24_PRM_RD || code == T24_PRM_WR) {
+        command[4] = (uint8_t)(size->parameters - 1);
+        command[6] = (uint8_t)size->size;
+    }
+    if (code == T24_ID_RD) {
+        command[4] = (uint8_t)(size->items - 1);
+        command[6] = 32;
+    }
+    if (code == T24_MEM_RD || code == T24_MEM_WR) {
+        command[5] = T24_ELEMENT_4;
+        command[6] = 13;
+        command[9] = 0x10; /* address 1000 hex */
+    }
+}
+
+/* The most that any code takes. */
+static size_t used_by_exchange(const struct size *size)
+{
+    static const uint8_t codes[] = {
+        T24_CONNECT, T24_NOP, T24_PRM_RD, T24_PRM_WR, T24_ID_RD, T24_ALM_RD,
+        T24_ALM_CLR, T24_MEM_RD, T24_MEM_WR, T24_SYNC_SET, T24_DISCONNECT
+    };
+    size_t i, used, most = 0;
+
+    for (i = 0; i < sizeof codes; i++) {
+        make_command(codes[i], size);
+        used = used_by(ask_exchange);
+        most = used > most ? used : most;
+        if (size->items > 0 && t24_reply_alarm(reply) != 0)
+            exit(3);
+    }
+    return most;
+}
+
+static void measure(const struct size *size, double *used)
+{
+    size_t empty;
+
+    build(size);
+    empty = used_by(nothing);
+    used[0] = (double)(used_by(ask_sheet) - empty);
+    used[1] = (double)(used_by(ask_lengths) - empty);
+    used[2] = (double)(used_by(ask_reset) - empty);
+    used[3] = (double)(used_by(ask_enable) - empty);
+    used[4] = (double)(used_by_exchange(size) - empty);
+}
+
+/* Least squares: octets for each record, and those for none. */
+static void fit(const double *records, double used[][CALLS], int call,
+                double *slope, double *base)
+{
+    double n = (double)SIZES, x = 0, y = 0, xx = 0, xy = 0;
+    size_t i;
+
+    for (i = 0; i < SIZES; i++) {
+        x += records[i];
+        y += used[i][call];
+        xx += records[i] * records[i];
+        xy += records[i] * used[i][call];
+    }
+    *slope = (n * xy - x * y) / (n * xx - x * x);
+    *base = (y - *slope * x) / n;
+}
+
+int main(void)
+{
+    double records[SIZES], used[SIZES][CALLS], slope, base;
+    size_t i;
+    int call;
+
+    puts("| records | t24_sheet | t24_lengths | t24_reset | t24_enable | t24_exchange |");
+    puts("|---|---:|---:|---:|---:|---:|");
+    for (i = 0; i < SIZES; i++) {
+        records[i] = 2 + sizes[i].regions + sizes[i].parameters + sizes[i].items;
+        measure(&sizes[i], used[i]);
+        printf("| %.0f %s |", records[i], sizes[i].name);
+        for (call = 0; call < CALLS; call++)
+            printf(" %.0f |", used[i][call]);
+        puts("");
+    }
+    printf("| a line fitted |");
+    for (call = 0; call < CALLS; call++) {
+        fit(records, used, call, &slope, &base);
+        printf(" %.0f + %.1f each |", base, slope);
+    }
+    puts("");
+    return 0;
+}
