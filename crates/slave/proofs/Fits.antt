@@ -32,7 +32,7 @@ use Rattle.sheet.specs.declared.entries.SoughtItem.{SoughtItem}
 use Rattle.sheet.specs.declared.entries.SoughtParameter.{SoughtParameter}
 use Rattle.sheet.specs.declared.walk.Layout.{Layout}
 use Rattle.sheet.proofs.Valid.{ValidSheet, valid-apart, valid-parameter, valid-item, valid-sheet, item-inside, length-least}
-use Rattle.slave.specs.Exchange.{Ready}
+use Rattle.slave.specs.Exchange.{Lent, Ready}
 
 -- a judgement whose effect fits
 abbrev Fit : Judgement → ℕ → ℕ → ℕ → Type 0
@@ -166,14 +166,19 @@ module _ (s : List ℕ) (lay : Layout) (ok : ValidSheet s lay) (st : LinkState) 
   outcome-fits =
       pick-both (λ (o : Outcome). Fitting (o .effect) (lay .l) (lay .memory) (length s)) _ tt (finished-fits (judgeOf s lay st c) judge-fits)
 
--- where nothing refuses, the effect fits the lent lists
-pub ready-fits : (sheet state memory command reply : List ℕ) (lay : Layout) (st : LinkState) → Ready sheet state memory command reply lay st
+-- on lent lists of the right lengths the effect fits
+pub lent-fits : (sheet memory command reply : List ℕ) (lay : Layout) (st : LinkState) → Lent sheet memory command reply lay
     → (c : Command) (o : Outcome) (begun : List ℕ) → o ≡ outcomeOf sheet lay st c → length begun ≡ length reply
     → (length command ≡ length begun) × Fitting (o .effect) (length begun) (length memory) (length sheet)
-ready-fits sheet state memory command reply lay st p c o begun e l =
+lent-fits sheet memory command reply lay st p c o begun e l =
     let ok = valid-sheet sheet lay (p .valid) in
     let same : length begun ≡ lay .l = l ∙ p .lent in (
       p .asked ∙ sym same,
       subst₂ (λ (x y : ℕ). Fitting (o .effect) x y (length sheet)) (sym same) (sym (p .whole))
           (subst (λ (x : Outcome). Fitting (x .effect) (lay .l) (lay .memory) (length sheet)) (sym e) (outcome-fits sheet lay ok st c)),
     )
+
+-- where nothing refuses, the lists are of the right lengths
+pub ready-lent : (sheet state memory command reply : List ℕ) (lay : Layout) (st : LinkState) → Ready sheet state memory command reply lay st
+    → Lent sheet memory command reply lay
+ready-lent sheet state memory command reply lay st p = record { valid = p .valid; whole = p .whole; asked = p .asked; lent = p .lent }

@@ -57,6 +57,13 @@ exchangeOf sheet state memory command reply =
     (left (told (refusalOf lay st (length memory) (length command) (length reply)) 0) state memory reply)
     (exchanged sheet lay st memory command)))
 
+-- a valid sheet, and lists of the lengths that it says: what the code that builds a reply leans on
+pub record Lent (sheet memory command reply : List ℕ) (lay : Layout) : Type 0 where
+  pub valid : verdictOf sheet ≡ Valid lay
+  pub whole : length memory ≡ lay .memory
+  pub asked : length command ≡ lay .l
+  pub lent : length reply ≡ lay .l
+
 -- what holds where nothing refuses: what the code that builds the reply leans on
 pub record Ready (sheet state memory command reply : List ℕ) (lay : Layout) (st : LinkState) : Type 0 where
   pub valid : verdictOf sheet ≡ Valid lay

@@ -2,11 +2,15 @@
 use crate::answers::Answer;
 use link::state::LinkState;
 use link::stored::Stored;
+use machine::words::Outcome;
 use sheet::walk::Layout;
 use sheet::walk::Verdict;
 ghost use mathlib.Core.Path.{_≡_};
 ghost use Rattle.slave.specs.Answers.{told};
-ghost use Rattle.slave.specs.Exchange.{left, refusalOf, exchanged, exchangeOf, Ready};
+ghost use Rattle.frame.specs.Body.{replyOf};
+ghost use Rattle.frame.specs.Fields.{commandOf};
+ghost use Rattle.machine.specs.Outcomes.{outcomeOf};
+ghost use Rattle.slave.specs.Exchange.{left, refusalOf, exchanged, exchangeOf, Lent, Ready};
 
 // The first refusal behind the sheet's and the state's, by lengths and link; 0 where there is none.
 fn refusal(layout: Layout, st: LinkState, memory: usize, command: usize, reply: usize) -> u8
@@ -27,6 +31,27 @@ fn refusal(layout: Layout, st: LinkState, memory: usize, command: usize, reply: 
     crate::answers::DONE
 }
 
+// The whole reply to a command, built over lent octets, and what the command comes to; memory and state stay.
+pub fn build(
+    sheet: &[u8],
+    layout: Layout,
+    st: LinkState,
+    memory: &[u8],
+    command: &[u8],
+    reply: &mut [u8],
+) -> Outcome
+    requires { ⌜ Lent (now sheet) (now memory) (now command) (now reply) layout ⌝ }
+    ensures { λ r. ⌜ (r ≡ outcomeOf (now (sheet .entry)) layout st (commandOf (now (command .entry)))) × (now (reply .exit) ≡ replyOf (now (sheet .entry)) (now (memory .entry)) (now (command .entry)) (outcomeOf (now (sheet .entry)) layout st (commandOf (now (command .entry))))) ⌝ }
+{
+    let c = frame::fields::command_of(command);
+    let outcome = machine::outcome::outcome(sheet, layout, st, c);
+    let effect = outcome.effect;
+    let next = outcome.next;
+    frame::head::head(reply, c.code, c.wdt, outcome.alarm, next);
+    frame::body::fill_body(effect, sheet, memory, command, reply);
+    outcome
+}
+
 // The outcome of a command, written into reply, memory and state.
 fn perform(
     sheet: &[u8],
@@ -40,12 +65,9 @@ fn perform(
     requires { ⌜ Ready (now sheet) (now state) (now memory) (now command) (now reply) layout st ⌝ }
     ensures { λ _. ⌜ left (told 0 0) (now (state .exit)) (now (memory .exit)) (now (reply .exit)) ≡ exchanged (now (sheet .entry)) layout st (now (memory .entry)) (now (command .entry)) ⌝ }
 {
-    let c = frame::fields::command_of(command);
-    let outcome = machine::outcome::outcome(sheet, layout, st, c);
+    let outcome = build(sheet, layout, st, memory, command, reply);
     let effect = outcome.effect;
     let next = outcome.next;
-    frame::head::head(reply, c.code, c.wdt, outcome.alarm, next);
-    frame::body::fill_body(effect, sheet, memory, command, reply);
     frame::body::store(effect, command, memory);
     link::stored::write(state, next);
 }
