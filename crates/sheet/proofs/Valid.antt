@@ -6,6 +6,7 @@
 --     valid-item        an ID item that was found has a length in range
 --     item-inside       and its octets stand inside the sheet
 --     length-least      L is at least 8
+--     length-most       and at most 64
 --     same-layout       a sheet has one layout
 use mathlib.Core.Bool.{Bool, true, false, true≢false}
 use mathlib.Core.Logic.{⊎-elim}
@@ -134,6 +135,20 @@ five-least l e =
     short : l < 8 → isLength l ≡ false
     short h = rw (none 8 h (omega arith), none 16 h (omega arith), none 32 h (omega arith), none 48 h (omega arith), none 64 h (omega arith))
 
+five-most : (l : ℕ) → isLength l ≡ true → l ≤ 64
+unfolding isLength
+five-most l e =
+    ⊎-elim
+    (λ (h : 64 < l). absurd (true≢false (sym e ∙ long h)))
+    (λ h. h)
+    (lt-or-le 64 l)
+  where
+    none : (k : ℕ) → 64 < l → k ≤ 64 → eqb l k ≡ false
+    none k h m = ne-eqb l k (λ q. let w : ⊥ = omega arith in w)
+
+    long : 64 < l → isLength l ≡ false
+    long h = rw (none 8 h (omega arith), none 16 h (omega arith), none 32 h (omega arith), none 48 h (omega arith), none 64 h (omega arith))
+
 module _ (s : List ℕ) (lay : Layout) (ok : ValidSheet s lay) where
   pub valid-apart : Apart 0 (regionsOf s (lay .regions))
   valid-apart = sound-apart s (behind (countsOf lay)) (countsOf lay) (ok .sound)
@@ -178,5 +193,8 @@ module _ (s : List ℕ) (lay : Layout) (ok : ValidSheet s lay) where
       p e
 
   -- the shortest PDU has 8 octets
+  pub length-most : lay .l ≤ 64
+  length-most = five-most (lay .l) (ok .l-length)
+
   pub length-least : 8 ≤ lay .l
   length-least = five-least (lay .l) (ok .l-length)

@@ -1,0 +1,3 @@
+-- The laws of the replay.
+pub mod Differs
+pub mod Steps

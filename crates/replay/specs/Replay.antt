@@ -1,0 +1,75 @@
+-- The replay. Document 02, request 6: "Given sheet, state, memory and trace, tell the first record whose reply is not our machine's, with its number
+-- and the first differing octet, or that all agree, with the final state and memory."
+use Prim.Native.Nat.{ℕ, suc, _+_, _*_}
+use mathlib.Core.Bool.{not}
+use mathlib.Core.List.{List, [], _∷_}
+use lib.Dec.{eqb, ltb}
+use lib.ListN.{length}
+use Rattle.octets.specs.Pick.{pick}
+use Rattle.link.specs.Stored.{stateOf}
+use Rattle.sheet.specs.Walk.{verdictOf}
+use Rattle.slave.specs.Answers.{onSheet, onState}
+use Rattle.slave.specs.Exchange.{Left, exchangeOf}
+use Rattle.slave.specs.declared.answers.Answer.{Answer}
+use Rattle.replay.specs.Trace.{Traced, says, formOf, tracedOf}
+use Rattle.replay.specs.declared.told.Told.{Told}
+
+-- what a replay leaves behind: its answer, the state record and the memory
+pub record Replayed : Type 0 where
+  pub answer : Told
+  pub state : List ℕ
+  pub memory : List ℕ
+
+abbrev pub replayed : Told → List ℕ → List ℕ → Replayed
+replayed answer state memory = record { answer = answer; state = state; memory = memory }
+
+-- the first octet at which two replies differ; their length where they do not
+unfoldable pub differsAt : List ℕ → List ℕ → ℕ
+differsAt [] ys = 0
+differsAt (x ∷ xs) [] = 0
+differsAt (x ∷ xs) (y ∷ ys) = pick (eqb x y) (suc (differsAt xs ys)) 0
+
+-- what one record leaves behind: the first differing octet, the state record and the memory
+pub record Stepped : Type 0 where
+  pub at : ℕ
+  pub state : List ℕ
+  pub memory : List ℕ
+
+abbrev pub stepped : ℕ → List ℕ → List ℕ → Stepped
+stepped at state memory = record { at = at; state = state; memory = memory }
+
+-- a record's reply beside what our machine left: its state and memory where the replies are the same; else "on a difference, state and memory stand
+-- as before that record"
+unfoldable pub steppedOf : ℕ → List ℕ → List ℕ → List ℕ → Left → Stepped
+steppedOf l state memory reply x =
+    pick (eqb (differsAt (x .reply) reply) l) (stepped (differsAt (x .reply) reply) (x .state) (x .memory)) (stepped (differsAt (x .reply) reply) state memory)
+
+-- what record number k leads to: a difference, or the records behind it
+unfoldable pub onStep : ℕ → ℕ → Stepped → (List ℕ → List ℕ → Replayed) → Replayed
+onStep l k x next = pick (ltb (x .at) l) (replayed (says 34 (64 * k + x .at)) (x .state) (x .memory)) (next (x .state) (x .memory))
+
+-- the records from number k on, each exchanged by our machine: 34 is told with 64 times the number of the first whose reply is another, plus the
+-- first differing octet; where all agree, 0 is told with the number of records
+unfoldable pub playOf : List ℕ → ℕ → ℕ → List ℕ → List ℕ → List Traced → Replayed
+playOf sheet l k state memory [] = replayed (says 0 k) state memory
+playOf sheet l k state memory (t ∷ ts) =
+    onStep l k (steppedOf l state memory (t .reply) (exchangeOf sheet state memory (t .command) (t .reply)))
+    (λ s m. playOf sheet l (suc k) s m ts)
+
+-- a document 01 answer among those of a replay
+abbrev pub asTold : Answer → Told
+asTold a = says (a .number) (a .place)
+
+-- "Refusals: document 01's sheet, state, memory and Disabled refusals first, then, record by record .. ; nothing is written." A trace whose places
+-- would not fit an answer, over 2^30 - 1 octets, is 35 before its records are looked at.
+unfoldable pub replayOf : List ℕ → List ℕ → List ℕ → List ℕ → Replayed
+replayOf sheet state memory trace =
+    onSheet (verdictOf sheet) (λ refusal. replayed (asTold refusal) state memory)
+    (λ lay.
+    onState (stateOf state (lay .l)) (replayed (says 1 0) state memory)
+    (λ st.
+    pick (not (eqb (length memory) (lay .memory))) (replayed (says 2 0) state memory)
+    (pick (eqb (st .link) 0) (replayed (says 5 0) state memory)
+    (pick (ltb 1073741823 (length trace)) (replayed (says 35 0) state memory)
+    (pick (not (eqb (formOf (lay .l) trace .number) 0)) (replayed (formOf (lay .l) trace) state memory)
+    (playOf sheet (lay .l) 0 state memory (tracedOf (lay .l) trace)))))))
