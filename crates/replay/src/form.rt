@@ -1,9 +1,9 @@
-// What stands at a place of a trace.
+// The form of a trace's records: the work of the reader, on a slice and a place.
 ghost use mathlib.Core.Path.{_≡_};
 ghost use lib.ListN.{drop};
 ghost use Rattle.replay.specs.Trace.{kindLength, faultOf, recordAt};
 
-// Nothing any more, a whole record, or a fault's number.
+// What stands at a place of a trace: nothing any more, a whole record, or a fault's number.
 pub enum Record {
     End,
     Whole,
@@ -22,4 +22,39 @@ pub fn kind_length(kind: u8) -> u8
         0x25 => 64,
         _ => 0,
     }
+}
+
+// The fault of the record at a place, 0 where it is whole; past the end the kind octet counts as 0, which is no kind.
+pub fn fault_at(trace: &[u8], at: usize, l: u8) -> u8
+    ensures { λ r. ⌜ r ≡ faultOf l (drop at (now (trace .entry))) ⌝ }
+{
+    if trace.len() <= at {
+        return 31;
+    }
+    let length = kind_length(trace[at]);
+    if length == 0 {
+        return 31;
+    }
+    if length != l {
+        return 32;
+    }
+    // The place is below the length here, so the difference wraps for no place.
+    if trace.len() - at < 1 + 2 * (l as usize) {
+        return 33;
+    }
+    0
+}
+
+// What stands at a place of a trace.
+pub fn record_of(trace: &[u8], at: usize, l: u8) -> Record
+    ensures { λ r. ⌜ r ≡ recordAt l (now (trace .entry)) at ⌝ }
+{
+    if trace.len() <= at {
+        return Record::End;
+    }
+    let fault = fault_at(trace, at, l);
+    if fault == 0 {
+        return Record::Whole;
+    }
+    Record::Bad(fault)
 }

@@ -1,0 +1,34 @@
+-- The replay's definition, record by record.
+--     play-differs     a record whose reply is another ends it
+--     play-agrees      and one whose reply is the same leads to the next
+use mathlib.Core.List.{List}
+use mathlib.Core.Path.{_≡_, sym, ap, _∙_}
+use Prim.Native.Nat.{ℕ, suc, _+_, _*_, _<_, _≤_}
+use native.Mathlib.Numerals.{add-one}
+use native.Mathlib.Omega.{arith}
+use lib.ListN.{drop}
+use lib.Seq.{drop-drop}
+use Rattle.octets.specs.Parts.{part}
+use Rattle.octets.proofs.Pick.{pick-lt, pick-ge}
+use Rattle.slave.specs.Exchange.{exchangeOf}
+use Rattle.replay.specs.Replay.{Replayed, replayed, Stepped, steppedOf, onStep, playOf}
+use Rattle.replay.specs.Trace.{says, recordSize, recordsOf}
+
+module _ (sheet trace : List ℕ) (l k at : ℕ) (state memory : List ℕ) (m : ℕ) (x : Stepped)
+    (e : x ≡ steppedOf l state memory (part (drop at trace) (1 + l) l) (exchangeOf sheet state memory (part (drop at trace) 1 l) (part (drop at trace) (1 + l) l))) where
+  opened : playOf sheet l k state memory (recordsOf l (suc m) (drop at trace))
+      ≡ onStep l k x (λ s n. playOf sheet l (suc k) s n (recordsOf l m (drop (recordSize l) (drop at trace))))
+  unfolding playOf recordsOf
+  opened = ap (λ (y : Stepped). onStep l k y (λ s n. playOf sheet l (suc k) s n (recordsOf l m (drop (recordSize l) (drop at trace))))) (sym e)
+
+  pub play-differs : x .at < l → playOf sheet l k state memory (recordsOf l (suc m) (drop at trace)) ≡ replayed (says 34 (64 * k + x .at)) (x .state) (x .memory)
+  unfolding onStep
+  play-differs h = opened ∙ pick-lt _ _ h
+
+  pub play-agrees : l ≤ x .at
+      → playOf sheet l k state memory (recordsOf l (suc m) (drop at trace)) ≡ playOf sheet l (k + 1) (x .state) (x .memory) (recordsOf l m (drop (at + recordSize l) trace))
+  unfolding onStep
+  play-agrees h =
+      let s : suc k ≡ k + 1 = omega arith in
+      opened ∙ pick-ge _ _ h
+      ∙ (λ i. playOf sheet l (s i) (x .state) (x .memory) (recordsOf l m (drop-drop (recordSize l) at trace i)))
