@@ -2,17 +2,17 @@
 --     play-differs     a record whose reply is another ends it
 --     play-agrees      and one whose reply is the same leads to the next
 use mathlib.Core.List.{List}
-use mathlib.Core.Path.{_≡_, sym, ap, _∙_}
-use Prim.Native.Nat.{ℕ, suc, _+_, _*_, _<_, _≤_}
-use native.Mathlib.Numerals.{add-one}
+use mathlib.Core.Path.{_≡_, refl, sym, ap, _∙_}
+use Prim.Native.Nat.{ℕ, zero, suc, _+_, _*_, _/_, _<_, _≤_}
+use native.Mathlib.Nat.{mul-div-cancel, suc-mul}
 use native.Mathlib.Omega.{arith}
-use lib.ListN.{drop}
+use lib.ListN.{length, drop}
 use lib.Seq.{drop-drop}
 use Rattle.octets.specs.Parts.{part}
 use Rattle.octets.proofs.Pick.{pick-lt, pick-ge}
 use Rattle.slave.specs.Exchange.{exchangeOf}
-use Rattle.replay.specs.Replay.{Replayed, replayed, Stepped, steppedOf, onStep, playOf}
-use Rattle.replay.specs.Trace.{says, recordSize, recordsOf}
+use Rattle.replay.specs.Replay.{replayed, Stepped, steppedOf, onStep, playOf}
+use Rattle.replay.specs.Trace.{says, recordSize, recordsOf, tracedOf}
 
 module _ (sheet trace : List ℕ) (l k at : ℕ) (state memory : List ℕ) (m : ℕ) (x : Stepped)
     (e : x ≡ steppedOf l state memory (part (drop at trace) (1 + l) l) (exchangeOf sheet state memory (part (drop at trace) 1 l) (part (drop at trace) (1 + l) l))) where
@@ -32,3 +32,20 @@ module _ (sheet trace : List ℕ) (l k at : ℕ) (state memory : List ℕ) (m : 
       let s : suc k ≡ k + 1 = omega arith in
       opened ∙ pick-ge _ _ h
       ∙ (λ i. playOf sheet l (s i) (x .state) (x .memory) (recordsOf l m (drop-drop (recordSize l) at trace i)))
+
+-- where octets are left of m records, there is a record more
+pub one-more : (n at m s : ℕ) → n ≡ at + m * s → at < n → (p : ℕ) × (m ≡ suc p) × (n ≡ at + s + p * s)
+one-more n at zero s e h = absurd (let z : ⊥ = omega arith in z)
+one-more n at (suc p) s e h = (p, refl, (let q = suc-mul p s in omega arith))
+
+-- a trace of n records has n of them
+pub traced-all : (l n : ℕ) (trace : List ℕ) → length trace ≡ n * recordSize l → tracedOf l trace ≡ recordsOf l n trace
+traced-all l n trace e = ap (λ (m : ℕ). recordsOf l m trace) (ap (λ (m : ℕ). m / recordSize l) e ∙ mul-div-cancel n {n = recordSize l} (omega arith))
+
+-- where no octet is left, no record is
+pub play-end : (sheet trace : List ℕ) (l k at : ℕ) (state memory : List ℕ) (m : ℕ) → length trace ≡ at + m * recordSize l → length trace ≤ at
+    → playOf sheet l k state memory (recordsOf l m (drop at trace)) ≡ replayed (says 0 k) state memory
+unfolding playOf recordsOf
+play-end sheet trace l k at state memory zero e h = refl
+play-end sheet trace l k at state memory (suc p) e h =
+    absurd (let q = suc-mul p (recordSize l) in let z : ⊥ = omega arith in z)

@@ -3,3 +3,4 @@ pub mod form; // form.rt: what stands at a place of a trace
 pub mod reader; // reader.rt: a trace and a place in it, which hands out one record at a time
 pub mod told; // told.rt: the answer
 pub mod step; // step.rt: one record beside our machine's reply
+pub mod playing; // playing.rt: all records, and the refusals before them

@@ -1,0 +1,42 @@
+// All records of a trace, and the refusals before them.
+use crate::told::Told;
+use sheet::walk::Layout;
+ghost use mathlib.Core.Path.{_≡_};
+ghost use Prim.Native.Nat.{ℕ, _*_, _≤_};
+ghost use lib.ListN.{length};
+ghost use Rattle.sheet.specs.Walk.{verdictOf};
+ghost use Rattle.sheet.specs.declared.walk.Verdict.the-variants.{Valid};
+ghost use Rattle.replay.specs.Trace.{recordSize, tracedOf};
+ghost use Rattle.replay.specs.Replay.{replayed, playOf};
+
+// The records of a trace of whole ones, in their order, up to the first difference.
+fn play(
+    sheet: &[u8],
+    layout: Layout,
+    state: &mut [u8],
+    memory: &mut [u8],
+    trace: &[u8],
+    room: &mut [u8],
+) -> Told
+    requires { ⌜ (verdictOf (now sheet) ≡ Valid layout) × (length (now memory) ≡ layout .memory) × (length (now room) ≡ layout .l) × (length (now trace) ≤ 1073741823) × ((n : ℕ) × (length (now trace) ≡ n * recordSize (layout .l))) ⌝ }
+    ensures { λ r. ⌜ replayed r (now (state .exit)) (now (memory .exit)) ≡ playOf (now (sheet .entry)) (layout .l) 0 (now (state .entry)) (now (memory .entry)) (tracedOf (layout .l) (now (trace .entry))) ⌝ }
+{
+    let size = 1 + 2 * (layout.l as usize);
+    let mut k: u32 = 0;
+    let mut at: usize = 0;
+    while at < trace.len() {
+        let d = crate::step::one(sheet, layout, state, memory, trace, at, room);
+        if d < layout.l {
+            return Told {
+                number: crate::told::DIFFERS,
+                place: 64 * k + d as u32,
+            };
+        }
+        k += 1;
+        at += size;
+    }
+    Told {
+        number: 0,
+        place: k,
+    }
+}
