@@ -41,6 +41,12 @@ formed End place next = says 0 0
 formed Whole place next = next
 formed (Bad fault) place next = says fault place
 
+-- the number of a fault; 0 where there is none
+unfoldable pub faultIn : Record → ℕ
+faultIn End = 0
+faultIn Whole = 0
+faultIn (Bad fault) = fault
+
 -- the form of the n records from record k on; "the place is the record's first octet"
 unfoldable pub formFrom : ℕ → List ℕ → ℕ → ℕ → Told
 formFrom l trace k zero = says 0 0

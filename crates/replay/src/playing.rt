@@ -1,13 +1,15 @@
 // All records of a trace, and the refusals before them.
 use crate::told::Told;
+use link::stored::Stored;
 use sheet::walk::Layout;
+use sheet::walk::Verdict;
 ghost use mathlib.Core.Path.{_≡_};
 ghost use Prim.Native.Nat.{ℕ, _*_, _≤_};
 ghost use lib.ListN.{length};
 ghost use Rattle.sheet.specs.Walk.{verdictOf};
 ghost use Rattle.sheet.specs.declared.walk.Verdict.the-variants.{Valid};
 ghost use Rattle.replay.specs.Trace.{recordSize, tracedOf};
-ghost use Rattle.replay.specs.Replay.{replayed, playOf};
+ghost use Rattle.replay.specs.Replay.{replayed, playOf, replayOf};
 
 // The records of a trace of whole ones, in their order, up to the first difference.
 fn play(
@@ -39,4 +41,43 @@ fn play(
         number: 0,
         place: k,
     }
+}
+
+// The records in room of our own for one reply.
+fn play_all(sheet: &[u8], layout: Layout, state: &mut [u8], memory: &mut [u8], trace: &[u8]) -> Told
+    requires { ⌜ (verdictOf (now sheet) ≡ Valid layout) × (length (now memory) ≡ layout .memory) × (length (now trace) ≤ 1073741823) × ((n : ℕ) × (length (now trace) ≡ n * recordSize (layout .l))) ⌝ }
+    ensures { λ r. ⌜ replayed r (now (state .exit)) (now (memory .exit)) ≡ playOf (now (sheet .entry)) (layout .l) 0 (now (state .entry)) (now (memory .entry)) (tracedOf (layout .l) (now (trace .entry))) ⌝ }
+{
+    let mut room = [0u8; 64];
+    let l = layout.l as usize;
+    play(sheet, layout, state, memory, trace, &mut room[..l])
+}
+
+// A trace of any octets beside a sheet, a state record and a memory of any octets: the refusals first, then the form of the whole trace, then the
+// exchanges.
+pub fn replay(sheet: &[u8], state: &mut [u8], memory: &mut [u8], trace: &[u8]) -> Told
+    ensures { λ r. ⌜ replayed r (now (state .exit)) (now (memory .exit)) ≡ replayOf (now (sheet .entry)) (now (state .entry)) (now (memory .entry)) (now (trace .entry)) ⌝ }
+{
+    let verdict = sheet::walk::check(sheet);
+    let Verdict::Valid(layout) = verdict else {
+        return crate::told::from_answer(slave::answers::sheet_answer(verdict));
+    };
+    let held = link::stored::read(state, layout.l);
+    let Stored::State(st) = held else {
+        return crate::told::plain(slave::answers::BAD_STATE);
+    };
+    if memory.len() != layout.memory as usize {
+        return crate::told::plain(slave::answers::BAD_MEMORY);
+    }
+    if st.link == link::state::DISABLED {
+        return crate::told::plain(slave::answers::IS_DISABLED);
+    }
+    if 1073741823 < trace.len() {
+        return crate::told::plain(crate::told::TOO_LONG);
+    }
+    let form = crate::whole::form(trace, layout.l);
+    if form.number != 0 {
+        return form;
+    }
+    play_all(sheet, layout, state, memory, trace)
 }

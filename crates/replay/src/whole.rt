@@ -1,0 +1,38 @@
+// The form of a whole trace.
+use crate::form::Record;
+use crate::told::Told;
+ghost use mathlib.Core.Path.{_≡_};
+ghost use Prim.Native.Nat.{_≤_};
+ghost use lib.ListN.{length};
+ghost use Rattle.replay.specs.Trace.{faultIn, formOf};
+
+// The number of a record's fault; 0 where it has none.
+fn fault_in(found: Record) -> u8
+    ensures { λ r. ⌜ r ≡ faultIn found ⌝ }
+{
+    match found {
+        Record::End => 0,
+        Record::Whole => 0,
+        Record::Bad(fault) => fault,
+    }
+}
+
+// The first fault of a trace with its place, record by record; 0 where all records are whole.
+pub fn form(trace: &[u8], l: u8) -> Told
+    requires { ⌜ length (now trace) ≤ 1073741823 ⌝ }
+    ensures { λ r. ⌜ r ≡ formOf l (now (trace .entry)) ⌝ }
+{
+    let size = 1 + 2 * (l as usize);
+    let mut at: usize = 0;
+    while at < trace.len() {
+        let fault = fault_in(crate::reader::record_at(trace, at, l));
+        if fault != 0 {
+            return Told {
+                number: fault,
+                place: at as u32,
+            };
+        }
+        at += size;
+    }
+    crate::told::plain(0)
+}
