@@ -1,6 +1,8 @@
 -- What a C host is told: an answer as one number, document 01's number + 2^32 × place.
 use Prim.Native.Nat.{ℕ, _+_, _*_}
 use mathlib.Core.List.{List}
+use Rattle.replay.specs.Replay.{Replayed}
+use Rattle.replay.specs.declared.told.Told.{Told}
 use Rattle.sheet.specs.declared.walk.Verdict.{Verdict}
 use Rattle.sheet.specs.declared.walk.Verdict.the-variants.{Valid, Faulty}
 use Rattle.slave.specs.Calls.{After}
@@ -38,3 +40,19 @@ leftByCall l = packedLeft (packed (l .answer)) (l .state) (l .memory) (l .reply)
 unfoldable pub lengthsOf : Verdict → ℕ
 lengthsOf (Valid layout) = layout .l + 4294967296 * layout .memory
 lengthsOf (Faulty fault place) = 0
+
+-- what a replay tells, as one number
+abbrev pub packedTold : Told → ℕ
+packedTold t = t .number + 4294967296 * t .place
+
+-- what a call of replay leaves behind
+pub record PackedReplay : Type 0 where
+  pub answer : ℕ
+  pub state : List ℕ
+  pub memory : List ℕ
+
+abbrev pub packedReplay : ℕ → List ℕ → List ℕ → PackedReplay
+packedReplay answer state memory = record { answer = answer; state = state; memory = memory }
+
+abbrev pub byReplay : Replayed → PackedReplay
+byReplay r = packedReplay (packedTold (r .answer)) (r .state) (r .memory)

@@ -1,18 +1,26 @@
 // The slave's calls for C hosts: numbers and byte slices alone cross this boundary, and every call checks every lent length itself.
 // An answer is one number, document 01's number + 2^32 × place.
+use replay::told::Told;
 use sheet::walk::Verdict;
 use slave::answers::Answer;
 ghost use mathlib.Core.Path.{_≡_};
+ghost use Rattle.replay.specs.Replay.{replayOf};
 ghost use Rattle.sheet.specs.Walk.{verdictOf};
 ghost use Rattle.slave.specs.Answers.{sheetAnswer};
 ghost use Rattle.slave.specs.Calls.{resetOf, enableOf};
 ghost use Rattle.slave.specs.Exchange.{exchangeOf};
-ghost use Rattle.type24.specs.Packed.{packed, packedAfter, afterCall, packedLeft, leftByCall, lengthsOf};
+ghost use Rattle.type24.specs.Packed.{packed, packedAfter, afterCall, packedLeft, leftByCall, lengthsOf, packedTold, packedReplay, byReplay};
 
 fn pack(answer: Answer) -> u64
     ensures { λ r. ⌜ r ≡ packed answer ⌝ }
 {
     answer.number as u64 + 4294967296 * (answer.place as u64)
+}
+
+fn pack_told(told: Told) -> u64
+    ensures { λ r. ⌜ r ≡ packedTold told ⌝ }
+{
+    told.number as u64 + 4294967296 * (told.place as u64)
 }
 
 // The verdict on a sheet: 0, or a fault with its place.
@@ -59,4 +67,13 @@ pub extern "C" fn t24_exchange(
     ensures { λ r. ⌜ packedLeft r (now (state .exit)) (now (memory .exit)) (now (reply .exit)) ≡ leftByCall (exchangeOf (now (sheet .entry)) (now (state .entry)) (now (memory .entry)) (now (command .entry)) (now (reply .entry))) ⌝ }
 {
     pack(slave::exchanging::exchange(sheet, state, memory, command, reply))
+}
+
+// The replay of a fitter's trace: 0 with the number of records where all agree, 34 with 64 × the record's number + the first differing octet, or a
+// refusal with its place.
+#[no_mangle]
+pub extern "C" fn t24_replay(sheet: &[u8], state: &mut [u8], memory: &mut [u8], trace: &[u8]) -> u64
+    ensures { λ r. ⌜ packedReplay r (now (state .exit)) (now (memory .exit)) ≡ byReplay (replayOf (now (sheet .entry)) (now (state .entry)) (now (memory .entry)) (now (trace .entry))) ⌝ }
+{
+    pack_told(replay::playing::replay(sheet, state, memory, trace))
 }
