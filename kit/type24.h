@@ -11,7 +11,8 @@
  *    with length 0 it is not followed.
  *  - Buffers lent in one call must not overlap: the host's duty, not checked.
  *  - const buffers are only read; of the others a call writes no octet but
- *    those named with it, and nothing at all unless it answers T24_DONE.
+ *    those named with it, and nothing at all on a refusal (1 to 6, 11 to 17,
+ *    31 to 33 and 35).
  *  - No call keeps anything: no global data, no pointer, no heap.  Every call
  *    is reentrant; threads may call at once as long as no buffer that one of
  *    them writes is shared.  A call needs up to about 20 KiB of stack.
@@ -36,6 +37,7 @@
 #define T24_STATE_LEN 10     /* every state record */
 #define T24_SHEET_MAX 2048   /* no accepted sheet is longer */
 #define T24_MEMORY_MAX 65536 /* no accepted sheet describes more memory */
+#define T24_TRACE_MAX 1073741823 /* no replayed trace is longer */
 
 /* Numbers a call can answer, see t24_number(). */
 #define T24_DONE 0          /* done, or reply built, or sheet valid */
@@ -52,6 +54,11 @@
 #define T24_SHEET_ORDER 15  /* records out of order, or regions overlap */
 #define T24_SHEET_EXCESS 16 /* too many records, or too much memory */
 #define T24_SHEET_SPAN 17   /* parameter not wholly in regions */
+#define T24_TRACE_KIND 31   /* trace: unknown record kind */
+#define T24_TRACE_L 32      /* trace: a kind whose L is not the sheet's */
+#define T24_TRACE_CUT 33    /* trace: record cut short */
+#define T24_TRACE_DIFFERS 34 /* trace: a reply is not this slave's */
+#define T24_TRACE_LONG 35   /* trace exceeds T24_TRACE_MAX */
 
 /* Sheet: record kinds, and the rights of a region. */
 #define T24_RECORD_END 0x00
@@ -62,6 +69,13 @@
 #define T24_RIGHT_READ 0x01
 #define T24_RIGHT_WRITE_ASYNC 0x02
 #define T24_RIGHT_WRITE_SYNC 0x04
+
+/* Trace: record kinds, each with a command and then a reply of L octets. */
+#define T24_TRACE_8 0x21
+#define T24_TRACE_16 0x22
+#define T24_TRACE_32 0x23
+#define T24_TRACE_48 0x24
+#define T24_TRACE_64 0x25
 
 /* State record: what stands at which octet, and the values of the link. */
 #define T24_AT_KIND 0 /* always T24_STATE_KIND */
@@ -178,6 +192,28 @@ uint64_t t24_exchange(const uint8_t *sheet, size_t sheet_len,
                       const uint8_t *command, size_t command_len,
                       uint8_t *reply, size_t reply_len);
 
+/*
+ * Replays a fitter's trace: exchanges each record's command and compares the
+ * reply with the record's.
+ * Needs a valid sheet, a valid state record of that sheet's L that is not
+ * Disabled, the memory, and a trace: records of 1 + 2 L octets one after
+ * another, or none.
+ * Answers, the first that applies: 11 to 17 with place as t24_sheet does;
+ * T24_BAD_STATE; T24_BAD_MEMORY; T24_IS_DISABLED (of an empty trace too);
+ * T24_TRACE_LONG; T24_TRACE_KIND, T24_TRACE_L or T24_TRACE_CUT for the first
+ * record that is not whole, with the octet of the trace where it starts as
+ * place; T24_TRACE_DIFFERS for the first record whose reply is not this
+ * slave's, see t24_trace_record() and t24_trace_octet(); else T24_DONE with
+ * the number of records as place.
+ * Afterwards: on T24_DONE state and memory are those behind the last record, on
+ * T24_TRACE_DIFFERS those before the record that differs; else they are
+ * unchanged.  Sheet and trace are unchanged.
+ */
+uint64_t t24_replay(const uint8_t *sheet, size_t sheet_len,
+                    uint8_t *state, size_t state_len,
+                    uint8_t *memory, size_t memory_len,
+                    const uint8_t *trace, size_t trace_len);
+
 #ifdef __cplusplus
 }
 #endif
@@ -188,11 +224,24 @@ static inline uint32_t t24_number(uint64_t answer)
     return answer & 0xFFFFFFFFu;
 }
 
-/* The place in an answer: an octet of the sheet for 11 to 17, else 0. */
+/* The place in an answer: an octet of the sheet for 11 to 17, of the trace for
+ * 31 to 33, as t24_replay says for T24_DONE and T24_TRACE_DIFFERS, else 0. */
 static inline uint32_t t24_place(uint64_t answer)
 {
     const uint64_t place = answer >> 32;
     return place & 0xFFFFFFFFu;
+}
+
+/* The number, from 0 on, of the record that differs. */
+static inline uint32_t t24_trace_record(uint64_t answer)
+{
+    return t24_place(answer) / 64;
+}
+
+/* The first octet of its reply that is not this slave's. */
+static inline uint32_t t24_trace_octet(uint64_t answer)
+{
+    return t24_place(answer) % 64;
 }
 
 /* L out of what t24_lengths answered; 0 means that the sheet is refused. */
@@ -237,6 +286,11 @@ static inline const char *t24_words(uint32_t number)
     case T24_SHEET_ORDER: return "sheet: records out of order or overlapping";
     case T24_SHEET_EXCESS: return "sheet: too many records or too much memory";
     case T24_SHEET_SPAN: return "sheet: parameter not wholly in regions";
+    case T24_TRACE_KIND: return "trace: unknown record kind";
+    case T24_TRACE_L: return "trace: a record of another L";
+    case T24_TRACE_CUT: return "trace: record cut short";
+    case T24_TRACE_DIFFERS: return "trace: a reply is not this slave's";
+    case T24_TRACE_LONG: return "trace is too long";
     default: return "not a number of this library";
     }
 }
