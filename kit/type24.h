@@ -11,8 +11,7 @@
  *    with length 0 it is not followed.
  *  - Buffers lent in one call must not overlap: the host's duty, not checked.
  *  - const buffers are only read; of the others a call writes no octet but
- *    those named with it, and nothing at all on a refusal (1 to 6, 11 to 17,
- *    31 to 33 and 35).
+ *    those named with it, and nothing on a refusal (any number but 0 and 34).
  *  - No call keeps anything: no global data, no pointer, no heap.  Every call
  *    is reentrant; threads may call at once as long as no buffer that one of
  *    them writes is shared.  A call needs up to about 20 KiB of stack.
@@ -71,10 +70,7 @@
 #define T24_RIGHT_WRITE_SYNC 0x04
 
 /* Trace: record kinds, each with a command and then a reply of L octets. */
-#define T24_TRACE_8 0x21
-#define T24_TRACE_16 0x22
-#define T24_TRACE_32 0x23
-#define T24_TRACE_48 0x24
+#define T24_TRACE_8 0x21 /* L of 8; 0x22 to 0x25 for 16, 32, 48 and 64 */
 #define T24_TRACE_64 0x25
 
 /* State record: what stands at which octet, and the values of the link. */
@@ -193,21 +189,18 @@ uint64_t t24_exchange(const uint8_t *sheet, size_t sheet_len,
                       uint8_t *reply, size_t reply_len);
 
 /*
- * Replays a fitter's trace: exchanges each record's command and compares the
- * reply with the record's.
- * Needs a valid sheet, a valid state record of that sheet's L that is not
- * Disabled, the memory, and a trace: records of 1 + 2 L octets one after
- * another, or none.
- * Answers, the first that applies: 11 to 17 with place as t24_sheet does;
- * T24_BAD_STATE; T24_BAD_MEMORY; T24_IS_DISABLED (of an empty trace too);
- * T24_TRACE_LONG; T24_TRACE_KIND, T24_TRACE_L or T24_TRACE_CUT for the first
- * record that is not whole, with the octet of the trace where it starts as
- * place; T24_TRACE_DIFFERS for the first record whose reply is not this
- * slave's, see t24_trace_record() and t24_trace_octet(); else T24_DONE with
- * the number of records as place.
+ * Replays a trace: exchanges each record's command and compares the replies.
+ * Needs what t24_exchange needs but for command and reply, and a trace: none or
+ * more records of 1 + 2 L octets.
+ * Answers, the first that applies: 11 to 17, T24_BAD_STATE, T24_BAD_MEMORY and
+ * T24_IS_DISABLED as t24_exchange does, of an empty trace too; T24_TRACE_LONG;
+ * T24_TRACE_KIND, T24_TRACE_L or T24_TRACE_CUT for the first record that is not
+ * whole, with the octet of the trace where it starts as place;
+ * T24_TRACE_DIFFERS for the first record whose reply is not this slave's, see
+ * t24_trace_record() and t24_trace_octet(); else T24_DONE with the number of
+ * records as place.
  * Afterwards: on T24_DONE state and memory are those behind the last record, on
- * T24_TRACE_DIFFERS those before the record that differs; else they are
- * unchanged.  Sheet and trace are unchanged.
+ * T24_TRACE_DIFFERS those before the one that differs; else they are unchanged.
  */
 uint64_t t24_replay(const uint8_t *sheet, size_t sheet_len,
                     uint8_t *state, size_t state_len,
@@ -224,8 +217,7 @@ static inline uint32_t t24_number(uint64_t answer)
     return answer & 0xFFFFFFFFu;
 }
 
-/* The place in an answer: an octet of the sheet for 11 to 17, of the trace for
- * 31 to 33, as t24_replay says for T24_DONE and T24_TRACE_DIFFERS, else 0. */
+/* The place in an answer: for 11 to 17, 31 to 34 and after a replay, else 0. */
 static inline uint32_t t24_place(uint64_t answer)
 {
     const uint64_t place = answer >> 32;
@@ -235,13 +227,13 @@ static inline uint32_t t24_place(uint64_t answer)
 /* The number, from 0 on, of the record that differs. */
 static inline uint32_t t24_trace_record(uint64_t answer)
 {
-    return t24_place(answer) / 64;
+    return t24_place(answer) / T24_L_MAX;
 }
 
 /* The first octet of its reply that is not this slave's. */
 static inline uint32_t t24_trace_octet(uint64_t answer)
 {
-    return t24_place(answer) % 64;
+    return t24_place(answer) % T24_L_MAX;
 }
 
 /* L out of what t24_lengths answered; 0 means that the sheet is refused. */
