@@ -70,8 +70,7 @@
 #define T24_RIGHT_WRITE_SYNC 0x04
 
 /* Trace: record kinds, each with a command and then a reply of L octets. */
-#define T24_TRACE_8 0x21 /* L of 8; 0x22 to 0x25 for 16, 32, 48 and 64 */
-#define T24_TRACE_64 0x25
+#define T24_TRACE_8 0x21 /* L of 8; then 0x22 to 0x25 for 16, 32, 48 and 64 */
 
 /* State record: what stands at which octet, and the values of the link. */
 #define T24_AT_KIND 0 /* always T24_STATE_KIND */
@@ -138,15 +137,13 @@ uint64_t t24_sheet(const uint8_t *sheet, size_t sheet_len);
 /*
  * What a sheet asks of the host's buffers.  Needs nothing but the sheet.
  * Answers L and the memory length, see t24_l() and t24_memory(), or 0 for a
- * sheet that t24_sheet refuses (L is never 0, so 0 means refused).  A valid
- * sheet without regions has memory length 0.
+ * sheet that t24_sheet refuses (L is never 0, so 0 means refused).
  * Afterwards: the sheet is unchanged, and nothing else was lent.
  */
 uint64_t t24_lengths(const uint8_t *sheet, size_t sheet_len);
 
 /*
- * Makes a state record.  Needs a valid sheet and T24_STATE_LEN octets of any
- * content.
+ * Makes a state record.  Needs a valid sheet and T24_STATE_LEN octets.
  * Answers, the first that applies: 11 to 17 with place as t24_sheet does;
  * T24_BAD_STATE if state_len is not T24_STATE_LEN; else T24_DONE.
  * Afterwards: on T24_DONE the state is Disabled with the sheet's L, zeros
@@ -224,13 +221,12 @@ static inline uint32_t t24_place(uint64_t answer)
     return place & 0xFFFFFFFFu;
 }
 
-/* The number, from 0 on, of the record that differs. */
+/* The number, from 0 on, of the record that differs, and its reply's octet. */
 static inline uint32_t t24_trace_record(uint64_t answer)
 {
     return t24_place(answer) / T24_L_MAX;
 }
 
-/* The first octet of its reply that is not this slave's. */
 static inline uint32_t t24_trace_octet(uint64_t answer)
 {
     return t24_place(answer) % T24_L_MAX;
