@@ -1,5 +1,6 @@
 -- The owner's page, proved.
-use Rattle.demands.specs.Demands.{FirstDemand, SecondDemand, ThirdDemand, IdlePrograms, OnTheBench}
+use Rattle.demands.specs.Demands.{FirstDemand, SecondDemand, ThirdDemand, IdlePrograms, OnTheBench, Request6}
+use Rattle.demands.proofs.Agreed.{traces-have-replies, agrees-exactly}
 use Rattle.demands.proofs.Alone.{refuses-all-keeps-secrets, single-reply-keeps-secrets, stores-nothing-keeps-secrets, echoes-afterwards-keeps-secrets, invents-rsn-keeps-secrets, invents-rsn-agrees-where-reached}
 use Rattle.demands.proofs.Bench.{sheet-p-is-valid, bench-cases}
 use Rattle.demands.proofs.Bodies.{body-in-the-reply}
@@ -45,3 +46,9 @@ idle-programs = record {
 
 pub on-the-bench : OnTheBench
 on-the-bench = record { sheet-p = sheet-p-is-valid; cases = bench-cases }
+
+pub request-6 : Request6
+request-6 = record {
+  traces-have-replies = traces-have-replies;
+  all-agree-exactly = agrees-exactly;
+}

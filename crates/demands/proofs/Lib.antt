@@ -18,5 +18,7 @@ pub mod Bodies
 pub mod OnTheWire
 pub mod Shut
 pub mod Alone
+pub mod Replays
+pub mod Agreed
 pub mod Unique
 pub mod Demands

@@ -10,6 +10,7 @@ use Rattle.demands.specs.Hidden.{Demand3}
 use Rattle.demands.specs.Idle.{Demand2, KeepsSecrets, AgreesWhereReached, refusesAll, singleReply, storesNothing, echoesAfterwards, inventsRsn}
 use Rattle.demands.specs.OnTheWire.{RefusedOnTheWire}
 use Rattle.demands.specs.Refused.{RefusedChangesNothing, StatesStayValid}
+use Rattle.demands.specs.Replays.{TracesHaveReplies, AgreesExactly}
 use Rattle.demands.specs.Sequences.{Call, runOf, History}
 use Rattle.demands.specs.Unique.{OneAnswers}
 use Rattle.demands.specs.Writes.{WritesOwnOctets, MemoryKeepsItsLength}
@@ -52,3 +53,10 @@ pub record IdlePrograms : Type 0 where
 pub record OnTheBench : Type 0 where
   pub sheet-p : SheetPIsValid
   pub cases : BenchCases
+
+-- Document 02, request 6, "Replay the fitter's trace", of the replay as it is defined.
+pub record Request6 : Type 0 where
+  -- each record of a trace has a whole reply, so that what follows holds for every trace
+  pub traces-have-replies : TracesHaveReplies
+  -- "tell the first record whose reply is not our machine's .. or that all agree"
+  pub all-agree-exactly : AgreesExactly

@@ -9,5 +9,6 @@ pub mod Bodies
 pub mod Writes
 pub mod Hidden
 pub mod Idle
+pub mod Replays
 pub mod Unique
 pub mod Bench

@@ -1,0 +1,153 @@
+-- The replay, taken apart record by record.
+--     differs-none, differs-before, differs-there     what the first differing octet says of two replies of one length
+--     reply-keeps                                     an exchange keeps the length of the reply, whatever is lent
+--     played                                          a replay as what happened at each of its records
+use mathlib.Core.Logic.{⊎-elim}
+use mathlib.Core.Path.{_≡_, refl, sym, ap, ap₂, subst, subst₂, _∙_}
+use mathlib.Core.List.{List, [], _∷_}
+use Prim.Native.Nat.{ℕ, zero, suc, _+_, _*_, _≤_, _<_}
+use native.Mathlib.Omega.{arith}
+use borrow.Author.Tests.{eqb-true, eqb-false, eq-eqb, ne-eqb, not-false}
+use lib.Dec.{eqb}
+use lib.ListN.{length, getD}
+use Rattle.octets.proofs.Cases.{decided, eq-or-ne}
+use Rattle.octets.proofs.Pick.{pick-yes, pick-no, pick-lt, pick-ge, pick-eq, pick-ne, pick-cases}
+use Rattle.frame.specs.Body.{Fitting}
+use Rattle.frame.specs.Fields.{commandOf}
+use Rattle.link.specs.Stored.{stateOf}
+use Rattle.link.specs.declared.state.LinkState.{LinkState}
+use Rattle.machine.specs.Outcomes.{outcomeOf}
+use Rattle.sheet.specs.Walk.{verdictOf}
+use Rattle.sheet.specs.declared.walk.Layout.{Layout}
+use Rattle.sheet.specs.declared.walk.Verdict.the-variants.{Valid}
+use Rattle.sheet.proofs.Valid.{valid-sheet, length-least}
+use Rattle.slave.specs.Exchange.{Left, refusalOf, exchanged, exchangeOf}
+use Rattle.slave.proofs.Fits.{outcome-fits}
+use Rattle.slave.proofs.Order.{no-refusal}
+use Rattle.replay.specs.Replay.{Replayed, replayed, differsAt, steppedOf, onStep, playOf}
+use Rattle.replay.specs.Trace.{Traced, says}
+use Rattle.replay.proofs.Differs.{differs-most}
+use Rattle.demands.specs.Replays.{ours, agreeing, RepliesOf}
+use Rattle.demands.proofs.Refusals.{by-sheet, by-state}
+use Rattle.demands.proofs.Replies.{reply-length}
+
+-- a search through replies of one length that stops nowhere: they are one
+pub differs-none : (xs ys : List ℕ) → length xs ≡ length ys → differsAt xs ys ≡ length ys → xs ≡ ys
+unfolding differsAt
+differs-none [] [] e d = refl
+differs-none [] (y ∷ ys) e d = absurd (let k : ⊥ = omega arith in k)
+differs-none (x ∷ xs) [] e d = absurd (let k : ⊥ = omega arith in k)
+differs-none (x ∷ xs) (y ∷ ys) e d =
+    ⊎-elim
+    (λ q.
+    let d′ = sym (pick-yes (suc (differsAt xs ys)) 0 q) ∙ d in
+    ap₂ (λ (z : ℕ) (zs : List ℕ). z ∷ zs) (eqb-true x y q) (differs-none xs ys (omega arith) (omega arith)))
+    (λ q. let d′ = sym (pick-no (suc (differsAt xs ys)) 0 q) ∙ d in absurd (let k : ⊥ = omega arith in k))
+    (decided (eqb x y))
+
+-- one that stops: the octets before it are the same
+pub differs-before : (xs ys : List ℕ) (i : ℕ) → i < differsAt xs ys → getD xs i 0 ≡ getD ys i 0
+unfolding differsAt
+differs-before [] ys i h = absurd (let k : ⊥ = omega arith in k)
+differs-before (x ∷ xs) [] i h = absurd (let k : ⊥ = omega arith in k)
+differs-before (x ∷ xs) (y ∷ ys) i h =
+    ⊎-elim
+    (λ q. inner i (λ j. differs-before xs ys j) (eqb-true x y q) (subst (λ (n : ℕ). i < n) (pick-yes (suc (differsAt xs ys)) 0 q) h))
+    (λ q. let h′ = subst (λ (n : ℕ). i < n) (pick-no (suc (differsAt xs ys)) 0 q) h in absurd (let k : ⊥ = omega arith in k))
+    (decided (eqb x y))
+  where
+    inner : (i : ℕ) → ((j : ℕ) → j < differsAt xs ys → getD xs j 0 ≡ getD ys j 0) → x ≡ y → i < suc (differsAt xs ys)
+        → getD (x ∷ xs) i 0 ≡ getD (y ∷ ys) i 0
+    inner zero behind e h = e
+    inner (suc i) behind e h = behind i (omega arith)
+
+-- and the octet there is another
+pub differs-there : (xs ys : List ℕ) → length xs ≡ length ys → differsAt xs ys < length ys
+    → getD xs (differsAt xs ys) 0 ≡ getD ys (differsAt xs ys) 0 → ⊥
+unfolding differsAt
+differs-there [] ys e h = absurd (let k : ⊥ = omega arith in k)
+differs-there (x ∷ xs) [] e h = absurd (let k : ⊥ = omega arith in k)
+differs-there (x ∷ xs) (y ∷ ys) e h =
+    ⊎-elim
+    (λ q same.
+    let p = pick-yes (suc (differsAt xs ys)) 0 q in
+    let h′ = subst (λ (n : ℕ). n < suc (length ys)) p h in
+    differs-there xs ys (omega arith) (omega arith) (subst (λ (n : ℕ). getD (x ∷ xs) n 0 ≡ getD (y ∷ ys) n 0) p same))
+    (λ q same.
+    eqb-false x y q (subst (λ (n : ℕ). getD (x ∷ xs) n 0 ≡ getD (y ∷ ys) n 0) (pick-no (suc (differsAt xs ys)) 0 q) same))
+    (decided (eqb x y))
+
+-- an exchange that is answered
+exchanged-reply : (sheet memory command reply : List ℕ) (lay : Layout) (st : LinkState) → verdictOf sheet ≡ Valid lay
+    → refusalOf lay st (length memory) (length command) (length reply) ≡ 0 → length (exchanged sheet lay st memory command .reply) ≡ length reply
+unfolding exchanged
+exchanged-reply sheet memory command reply lay st v free =
+    let ok = valid-sheet sheet lay v in
+    let r = no-refusal lay st (length memory) (length command) (length reply) free in
+    let o = outcomeOf sheet lay st (commandOf command) in
+    let f : Fitting (o .effect) (length command) (length memory) (length sheet) =
+    subst₂ (λ (c m : ℕ). Fitting (o .effect) c m (length sheet)) (sym (r .1)) (sym (r .0)) (outcome-fits sheet lay ok st (commandOf command)) in
+    let least = length-least sheet lay ok in
+    reply-length sheet memory command o (omega (arith, r .1)) f ∙ r .1 ∙ sym (r .2)
+
+pub reply-keeps : (sheet state memory command reply : List ℕ) → length (exchangeOf sheet state memory command reply .reply) ≡ length reply
+reply-keeps sheet state memory command reply =
+    unfold exchangeOf in
+    by-sheet (λ (l : Left). length (l .reply) ≡ length reply) (verdictOf sheet) _ _ (λ fault p. refl)
+    (λ lay v.
+    by-state (λ (l : Left). length (l .reply) ≡ length reply) (stateOf state (lay .l)) _ _ refl
+    (λ st h.
+    pick-cases (λ (l : Left). length (l .reply) ≡ length reply) _ (λ e. refl)
+    (λ e. exchanged-reply sheet memory command reply lay st v (eqb-true _ 0 (not-false _ e)))))
+
+-- one record of a replay
+module _ (sheet state memory : List ℕ) (l k : ℕ) (t : Traced) (ts : List Traced) where
+  abbrev place : ℕ
+  place = differsAt (ours sheet state memory t .reply) (t .reply)
+
+  pub play-on : place ≡ l
+      → playOf sheet l k state memory (t ∷ ts) ≡ playOf sheet l (suc k) (ours sheet state memory t .state) (ours sheet state memory t .memory) ts
+  unfolding playOf onStep steppedOf
+  play-on e =
+      let h : l ≤ place = omega arith in
+      let q = pick-yes _ _ (eq-eqb place l e) in
+      ap (λ x. onStep l k x (λ s m. playOf sheet l (suc k) s m ts)) q ∙ pick-ge _ _ h
+
+  pub play-over : place < l → playOf sheet l k state memory (t ∷ ts) ≡ replayed (says 34 (64 * k + place)) state memory
+  unfolding playOf onStep steppedOf
+  play-over h =
+      let q = pick-no _ _ (ne-eqb place l (λ e. let z : ⊥ = omega arith in z)) in
+      ap (λ x. onStep l k x (λ s m. playOf sheet l (suc k) s m ts)) q ∙ pick-lt _ _ h
+
+-- a replay as what happened at each of its records: the agreeing ones, and what it left
+pub data Played (sheet : List ℕ) (l : ℕ) : ℕ → List ℕ → List ℕ → List Traced → List Traced → Replayed → Type 0 where
+  ended : {k : ℕ} {state memory : List ℕ} → Played sheet l k state memory [] [] (replayed (says 0 k) state memory)
+  differed : {k : ℕ} {state memory : List ℕ} {t : Traced} {ts : List Traced}
+      → length (t .reply) ≡ l → differsAt (ours sheet state memory t .reply) (t .reply) < l
+      → Played sheet l k state memory (t ∷ ts) []
+      (replayed (says 34 (64 * k + differsAt (ours sheet state memory t .reply) (t .reply))) state memory)
+  agreed : {k : ℕ} {state memory : List ℕ} {t : Traced} {ts front : List Traced} {r : Replayed}
+      → ours sheet state memory t .reply ≡ t .reply
+      → Played sheet l (suc k) (ours sheet state memory t .state) (ours sheet state memory t .memory) ts front r
+      → Played sheet l k state memory (t ∷ ts) (t ∷ front) r
+
+pub played : (sheet : List ℕ) (l k : ℕ) (state memory : List ℕ) (ts : List Traced) → RepliesOf l ts
+    → Played sheet l k state memory ts (agreeing sheet state memory ts) (playOf sheet l k state memory ts)
+unfolding agreeing playOf
+played sheet l k state memory [] w = ended
+played sheet l k state memory (t ∷ ts) w =
+    let x = ours sheet state memory t in
+    let d = differsAt (x .reply) (t .reply) in
+    let same = reply-keeps sheet state memory (t .command) (t .reply) in
+    let most = differs-most (x .reply) (t .reply) in
+    ⊎-elim
+    (λ (e : d ≡ l).
+    subst₂ (λ (front : List Traced) (r : Replayed). Played sheet l k state memory (t ∷ ts) front r)
+    (sym (pick-eq _ _ (e ∙ sym (w .0)))) (sym (play-on sheet state memory l k t ts e))
+    (agreed (differs-none (x .reply) (t .reply) same (e ∙ sym (w .0))) (played sheet l (suc k) (x .state) (x .memory) ts (w .1))))
+    (λ (n : d ≡ l → ⊥).
+    let h : d < l = omega (arith, w .0, n) in
+    subst₂ (λ (front : List Traced) (r : Replayed). Played sheet l k state memory (t ∷ ts) front r)
+    (sym (pick-ne _ _ (λ e. n (e ∙ w .0)))) (sym (play-over sheet state memory l k t ts h))
+    (differed (w .0) h))
+    (eq-or-ne d l)

@@ -1,0 +1,49 @@
+-- Document 02, request 6: what a replay's answer, state and memory mean. Nothing here is of the code, which promises the defined replay to the octet.
+use Prim.Native.Nat.{ℕ, _+_, _*_, _/_, _%_, _≤_, _<_}
+use mathlib.Core.List.{List, [], _∷_, _++_, map}
+use mathlib.Core.Path.{_≡_}
+use lib.Dec.{eqb}
+use lib.ListN.{length, getD}
+use Rattle.octets.specs.Pick.{pick}
+use Rattle.slave.specs.Exchange.{Left, exchangeOf}
+use Rattle.replay.specs.Replay.{Replayed, differsAt, playOf}
+use Rattle.replay.specs.Trace.{Traced, says, recordSize, recordsOf, tracedOf}
+use Rattle.demands.specs.Sequences.{Call, Exchange, runOf, lastState, lastMemory}
+
+-- a trace's records as calls of a host: each command, with the trace's reply in the lent octets
+abbrev pub callsOf : List Traced → List Call
+callsOf ts = map (λ (t : Traced). Exchange (t .command) (t .reply)) ts
+
+-- our machine's exchange of a record
+abbrev pub ours : List ℕ → List ℕ → List ℕ → Traced → Left
+ours sheet state memory t = exchangeOf sheet state memory (t .command) (t .reply)
+
+-- the records at the front whose replies are our machine's, up to the first whose reply is another
+unfoldable pub agreeing : List ℕ → List ℕ → List ℕ → List Traced → List Traced
+agreeing sheet state memory [] = []
+agreeing sheet state memory (t ∷ ts) =
+    pick (eqb (differsAt (ours sheet state memory t .reply) (t .reply)) (length (t .reply)))
+    (t ∷ agreeing sheet (ours sheet state memory t .state) (ours sheet state memory t .memory) ts) []
+
+-- each record's reply has l octets: all that is asked of the records below
+abbrev pub RepliesOf : ℕ → List Traced → Type 0
+RepliesOf l [] = Unit {0}
+RepliesOf l (t ∷ ts) = (length (t .reply) ≡ l) × RepliesOf l ts
+
+-- the records of a trace have it, of every octets
+abbrev pub TracesHaveReplies : Type 0
+TracesHaveReplies = (l : ℕ) (trace : List ℕ) → RepliesOf l (tracedOf l trace)
+
+-- the replies of a run, and those of a trace
+abbrev pub runReplies : List Left → List (List ℕ)
+runReplies ls = map (λ (x : Left). x .reply) ls
+
+abbrev pub traceReplies : List Traced → List (List ℕ)
+traceReplies ts = map (λ (t : Traced). t .reply) ts
+
+-- "or that all agree": 0 is told exactly where every reply of our machine's run is the trace's, and then with the number of records
+abbrev pub AgreesExactly : Type 0
+AgreesExactly =
+    (sheet state memory : List ℕ) (l k : ℕ) (ts : List Traced) → RepliesOf l ts
+    → (playOf sheet l k state memory ts .answer .number ≡ 0 → runReplies (runOf sheet state memory (callsOf ts)) ≡ traceReplies ts)
+    × (runReplies (runOf sheet state memory (callsOf ts)) ≡ traceReplies ts → playOf sheet l k state memory ts .answer ≡ says 0 (k + length ts))
