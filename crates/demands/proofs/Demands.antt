@@ -5,6 +5,7 @@ use Rattle.demands.proofs.Alone.{refuses-all-keeps-secrets, single-repl
 use Rattle.demands.proofs.Bench.{sheet-p-is-valid, bench-cases}
 use Rattle.demands.proofs.Bodies.{body-in-the-reply}
 use Rattle.demands.proofs.Exact.{acceptance-is-exact, rights-over-whole-span}
+use Rattle.demands.proofs.Folded.{replay-is-fold}
 use Rattle.demands.proofs.Histories.{history-is-run}
 use Rattle.demands.proofs.Lengths.{memory-keeps-its-length}
 use Rattle.demands.proofs.OnTheWire.{refused-on-the-wire}
@@ -51,4 +52,5 @@ pub request-6 : Request6
 request-6 = record {
   traces-have-replies = traces-have-replies;
   all-agree-exactly = agrees-exactly;
+  the-replay-is-a-fold = replay-is-fold;
 }

@@ -20,5 +20,6 @@ pub mod Shut
 pub mod Alone
 pub mod Replays
 pub mod Agreed
+pub mod Folded
 pub mod Unique
 pub mod Demands

@@ -47,3 +47,28 @@ AgreesExactly =
     (sheet state memory : List ℕ) (l k : ℕ) (ts : List Traced) → RepliesOf l ts
     → (playOf sheet l k state memory ts .answer .number ≡ 0 → runReplies (runOf sheet state memory (callsOf ts)) ≡ traceReplies ts)
     × (runReplies (runOf sheet state memory (callsOf ts)) ≡ traceReplies ts → playOf sheet l k state memory ts .answer ≡ says 0 (k + length ts))
+
+-- the first difference: the record behind the agreeing ones, from the state and memory that stand before it
+pub record FirstDifference (sheet state memory : List ℕ) (k place : ℕ) (front ts : List Traced) : Type 0 where
+  pub differing : Traced
+  pub behind : List Traced
+  pub parts : ts ≡ front ++ (differing ∷ behind)
+  pub number : place / 64 ≡ k + length front
+  pub inside : place % 64 < length (differing .reply)
+  pub before : (i : ℕ) → i < place % 64 → getD (ours sheet state memory differing .reply) i 0 ≡ getD (differing .reply) i 0
+  pub differs : getD (ours sheet state memory differing .reply) (place % 64) 0 ≡ getD (differing .reply) (place % 64) 0 → ⊥
+
+-- what a replay r of records numbered from k on left, by its agreeing records
+pub record Folded (sheet state memory : List ℕ) (k : ℕ) (ts : List Traced) (r : Replayed) (front : List Traced) : Type 0 where
+  pub last-state : r .state ≡ lastState state (runOf sheet state memory (callsOf front))
+  pub last-memory : r .memory ≡ lastMemory memory (runOf sheet state memory (callsOf front))
+  pub replies : runReplies (runOf sheet state memory (callsOf front)) ≡ traceReplies front
+  pub all : r .answer .number ≡ 0 → front ≡ ts
+  pub otherwise : (r .answer .number ≡ 0 → ⊥) → (r .answer .number ≡ 34) × FirstDifference sheet (r .state) (r .memory) k (r .answer .place) front ts
+
+-- "with its number and the first differing octet .. on a difference, state and memory stand as before that record": a replay leaves what our machine's
+-- run over the agreeing records leaves, and 34 names the record behind them
+abbrev pub ReplayIsFold : Type 0
+ReplayIsFold =
+    (sheet state memory : List ℕ) (l k : ℕ) (ts : List Traced) → l ≤ 64 → RepliesOf l ts
+    → Folded sheet state memory k ts (playOf sheet l k state memory ts) (agreeing sheet state memory ts)
