@@ -4,6 +4,7 @@ use Rattle.demands.proofs.Agreed.{traces-have-replies, agrees-exactly}
 use Rattle.demands.proofs.Alone.{refuses-all-keeps-secrets, single-reply-keeps-secrets, stores-nothing-keeps-secrets, echoes-afterwards-keeps-secrets, invents-rsn-keeps-secrets, invents-rsn-agrees-where-reached}
 use Rattle.demands.proofs.Bench.{sheet-p-is-valid, bench-cases}
 use Rattle.demands.proofs.Bodies.{body-in-the-reply}
+use Rattle.demands.proofs.Cut.{cut-in-two}
 use Rattle.demands.proofs.Exact.{acceptance-is-exact, rights-over-whole-span}
 use Rattle.demands.proofs.Folded.{replay-is-fold}
 use Rattle.demands.proofs.Histories.{history-is-run}
@@ -53,4 +54,5 @@ request-6 = record {
   traces-have-replies = traces-have-replies;
   all-agree-exactly = agrees-exactly;
   the-replay-is-a-fold = replay-is-fold;
+  a-trace-in-two-parts = cut-in-two;
 }

@@ -21,5 +21,6 @@ pub mod Alone
 pub mod Replays
 pub mod Agreed
 pub mod Folded
+pub mod Cut
 pub mod Unique
 pub mod Demands

@@ -10,7 +10,7 @@ use Rattle.demands.specs.Hidden.{Demand3}
 use Rattle.demands.specs.Idle.{Demand2, KeepsSecrets, AgreesWhereReached, refusesAll, singleReply, storesNothing, echoesAfterwards, inventsRsn}
 use Rattle.demands.specs.OnTheWire.{RefusedOnTheWire}
 use Rattle.demands.specs.Refused.{RefusedChangesNothing, StatesStayValid}
-use Rattle.demands.specs.Replays.{TracesHaveReplies, AgreesExactly, ReplayIsFold}
+use Rattle.demands.specs.Replays.{TracesHaveReplies, AgreesExactly, ReplayIsFold, CutInTwo}
 use Rattle.demands.specs.Sequences.{Call, runOf, History}
 use Rattle.demands.specs.Unique.{OneAnswers}
 use Rattle.demands.specs.Writes.{WritesOwnOctets, MemoryKeepsItsLength}
@@ -63,3 +63,5 @@ pub record Request6 : Type 0 where
   -- "with its number and the first differing octet, or that all agree, with the final state and memory"; "on a difference, state and memory stand as
   -- before that record"
   pub the-replay-is-a-fold : ReplayIsFold
+  -- a trace that is replayed in two parts, each from where the last ended, is told as the whole is
+  pub a-trace-in-two-parts : CutInTwo

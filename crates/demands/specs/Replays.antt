@@ -72,3 +72,20 @@ abbrev pub ReplayIsFold : Type 0
 ReplayIsFold =
     (sheet state memory : List ℕ) (l k : ℕ) (ts : List Traced) → l ≤ 64 → RepliesOf l ts
     → Folded sheet state memory k ts (playOf sheet l k state memory ts) (agreeing sheet state memory ts)
+
+-- a replay that told 0 goes on from where it ended; any other stands
+abbrev pub goesOn : Replayed → (List ℕ → List ℕ → Replayed) → Replayed
+goesOn r next = pick (eqb (r .answer .number) 0) (next (r .state) (r .memory)) r
+
+-- a replay cut in two: that of the whole is that of the second part from where the first ended, whatever octets the records have
+pub record CutInTwo : Type 0 where
+  pub the-records :
+      (sheet state memory : List ℕ) (l k : ℕ) (ts us : List Traced)
+      → playOf sheet l k state memory (ts ++ us)
+      ≡ goesOn (playOf sheet l k state memory ts) (λ s n. playOf sheet l (k + length ts) s n us)
+  pub the-octets :
+      (l m n : ℕ) (t u : List ℕ) → length t ≡ m * recordSize l → recordsOf l (m + n) (t ++ u) ≡ recordsOf l m t ++ recordsOf l n u
+  pub the-trace :
+      (sheet state memory : List ℕ) (l k m : ℕ) (t u : List ℕ) → length t ≡ m * recordSize l
+      → playOf sheet l k state memory (tracedOf l (t ++ u))
+      ≡ goesOn (playOf sheet l k state memory (tracedOf l t)) (λ s n. playOf sheet l (k + m) s n (tracedOf l u))
