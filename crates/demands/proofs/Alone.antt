@@ -11,6 +11,7 @@ use Rattle.slave.specs.Exchange.{Left, exchangeOf}
 use Rattle.demands.specs.Hidden.{DifferOnlyHidden, Seen, seen}
 use Rattle.demands.specs.Idle.{KeepsSecrets, AgreesWhereReached, refusesAll, singleReply, storesNothing, echoes, echoesAfterwards, inventing, inventsRsn}
 use Rattle.demands.specs.Sequences.{Call, Reset, Enable, Exchange, callOf, runOf, lastMemory}
+use Rattle.demands.proofs.Lists.{still-agree}
 use Rattle.demands.proofs.Secrets.{call-kept, demand-3}
 
 -- the same behind the same
@@ -58,10 +59,6 @@ stores-last : (sheet state memory : List ℕ) (calls : List Call) → lastMemory
 unfolding storesNothing lastMemory
 stores-last sheet state memory [] = refl
 stores-last sheet state memory (c ∷ cs) = stores-last sheet (callOf sheet state memory c .state) memory cs
-
--- two memories of which nothing was changed agree where they agreed
-still-agree : (a b x y : List ℕ) → a ≡ x → b ≡ y → (i : ℕ) → getD x i 0 ≡ getD y i 0 → getD a i 0 ≡ getD b i 0
-still-agree a b x y p q i e = ap (λ (l : List ℕ). getD l i 0) p ∙ e ∙ sym (ap (λ (l : List ℕ). getD l i 0) q)
 
 pub refuses-all-keeps-secrets : KeepsSecrets refusesAll
 refuses-all-keeps-secrets sheet lay v state m₁ m₂ d calls =

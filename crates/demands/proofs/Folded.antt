@@ -6,7 +6,7 @@ use native.Mathlib.Omega.{arith}
 use lib.ListN.{length, getD}
 use Rattle.replay.specs.Replay.{Replayed, differsAt}
 use Rattle.replay.specs.Trace.{Traced}
-use Rattle.demands.specs.Replays.{ours, FirstDifference, Folded, ReplayIsFold}
+use Rattle.demands.specs.Replays.{callsOf, ours, Folded, ReplayIsFold}
 use Rattle.demands.specs.Sequences.{callOf, runOf, lastState, lastMemory}
 use Rattle.demands.proofs.Replays.{differs-before, differs-there, reply-keeps, Played, ended, differed, agreed, played}
 
@@ -16,6 +16,14 @@ told-number k d h = omega arith
 
 told-octet : (k d : ℕ) → d < 64 → d ≡ (64 * k + d) % 64
 told-octet k d h = omega arith
+
+-- the memory that a replay leaves is that behind the agreeing records
+pub memory-behind : (sheet : List ℕ) (l : ℕ) {k : ℕ} {state memory : List ℕ} {ts front : List Traced} {r : Replayed} → Played sheet l k state memory ts front r
+    → r .memory ≡ lastMemory memory (runOf sheet state memory (callsOf front))
+unfolding runOf callOf lastMemory
+memory-behind sheet l ended = refl
+memory-behind sheet l (differed w h) = refl
+memory-behind sheet l (agreed e p) = memory-behind sheet l p
 
 folded : (sheet : List ℕ) (l : ℕ) → l ≤ 64 → {k : ℕ} {state memory : List ℕ} {ts front : List Traced} {r : Replayed} → Played sheet l k state memory ts front r
     → Folded sheet state memory k ts r front
@@ -50,7 +58,7 @@ folded sheet l most (agreed {k = k} {t = t} {ts = ts} {front = front} {r = r} e 
     let f = folded sheet l most p in
     record {
       last-state = f .last-state;
-      last-memory = f .last-memory;
+      last-memory = memory-behind sheet l p;
       replies = ap₂ (λ (x : List ℕ) (xs : List (List ℕ)). x ∷ xs) e (f .replies);
       all = λ z. ap (λ (xs : List Traced). t ∷ xs) (f .all z);
       otherwise = λ n.

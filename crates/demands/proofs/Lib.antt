@@ -22,5 +22,6 @@ pub mod Replays
 pub mod Agreed
 pub mod Folded
 pub mod Cut
+pub mod Reached
 pub mod Unique
 pub mod Demands

@@ -5,10 +5,15 @@ use mathlib.Core.Path.{_≡_}
 use lib.Dec.{eqb}
 use lib.ListN.{length, getD}
 use Rattle.octets.specs.Pick.{pick}
+use Rattle.sheet.specs.Walk.{verdictOf}
+use Rattle.sheet.specs.declared.walk.Layout.{Layout}
+use Rattle.sheet.specs.declared.walk.Verdict.the-variants.{Valid}
 use Rattle.slave.specs.Exchange.{Left, exchangeOf}
 use Rattle.replay.specs.Replay.{Replayed, differsAt, playOf}
 use Rattle.replay.specs.Trace.{Traced, says, recordSize, recordsOf, tracedOf}
+use Rattle.demands.specs.Hidden.{DifferOnlyHidden}
 use Rattle.demands.specs.Sequences.{Call, Exchange, runOf, lastState, lastMemory}
+use Rattle.demands.specs.Writes.{Reached}
 
 -- a trace's records as calls of a host: each command, with the trace's reply in the lent octets
 abbrev pub callsOf : List Traced → List Call
@@ -89,3 +94,28 @@ pub record CutInTwo : Type 0 where
       (sheet state memory : List ℕ) (l k m : ℕ) (t u : List ℕ) → length t ≡ m * recordSize l
       → playOf sheet l k state memory (tracedOf l (t ++ u))
       ≡ goesOn (playOf sheet l k state memory (tracedOf l t)) (λ s n. playOf sheet l (k + m) s n (tracedOf l u))
+
+-- two replays of one trace from one state, on two memories: the same is told, and what the memories hold afterwards
+pub record SameReplay (sheet state m₁ m₂ : List ℕ) (l k : ℕ) (ts : List Traced) : Type 0 where
+  pub answers : playOf sheet l k state m₁ ts .answer ≡ playOf sheet l k state m₂ ts .answer
+  pub states : playOf sheet l k state m₁ ts .state ≡ playOf sheet l k state m₂ ts .state
+  pub fronts : agreeing sheet state m₁ ts ≡ agreeing sheet state m₂ ts
+  pub kept : (place : ℕ) → getD m₁ place 0 ≡ getD m₂ place 0
+      → getD (playOf sheet l k state m₁ ts .memory) place 0 ≡ getD (playOf sheet l k state m₂ ts .memory) place 0
+  pub reached : (place : ℕ) → Reached sheet state m₁ (callsOf (agreeing sheet state m₁ ts)) place
+      → getD (playOf sheet l k state m₁ ts .memory) place 0 ≡ getD (playOf sheet l k state m₂ ts .memory) place 0
+
+-- demand 3 of the replay: two memories that differ only in octets without the read right give the same answer and state; afterwards the memories differ
+-- nowhere that they did not differ before, and agree wherever an accepted write of an agreeing record reached
+abbrev pub SecretsInReplay : Type 0
+SecretsInReplay =
+    (sheet : List ℕ) (lay : Layout) → verdictOf sheet ≡ Valid lay
+    → (state m₁ m₂ : List ℕ) → DifferOnlyHidden sheet lay m₁ m₂ → (l k : ℕ) (ts : List Traced) → RepliesOf l ts → SameReplay sheet state m₁ m₂ l k ts
+
+-- "for demand 3 a write of that record reached nothing": a place that no accepted write of an agreeing record reached holds what it held, whatever the
+-- differing record would have written
+abbrev pub OnlyAgreeingReach : Type 0
+OnlyAgreeingReach =
+    (sheet state memory : List ℕ) (l k : ℕ) (ts : List Traced) → RepliesOf l ts
+    → (place : ℕ) → (Reached sheet state memory (callsOf (agreeing sheet state memory ts)) place → ⊥)
+    → getD (playOf sheet l k state memory ts .memory) place 0 ≡ getD memory place 0
