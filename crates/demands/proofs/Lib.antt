@@ -23,5 +23,6 @@ pub mod Agreed
 pub mod Folded
 pub mod Cut
 pub mod Reached
+pub mod Playing
 pub mod Unique
 pub mod Demands

@@ -75,10 +75,8 @@ secrets-in-replay sheet lay v state m₁ m₂ hidden l k ts w =
     memory-behind sheet l (played sheet l k state m₂ ts w)
     ∙ ap (λ (xs : List Traced). lastMemory m₂ (runOf sheet state m₂ (callsOf xs))) (sym (s .2)) in
     record {
-      answers = s .0;
-      states = s .1;
+      alike = record { answers = s .0; states = s .1; kept = λ i e. still-agree _ _ _ _ b₁ b₂ i (run .1 i e) };
       fronts = s .2;
-      kept = λ i e. still-agree _ _ _ _ b₁ b₂ i (run .1 i e);
       reached = λ i r. still-agree _ _ _ _ b₁ b₂ i (run .2 i r);
     }
 

@@ -10,7 +10,7 @@ use Rattle.demands.specs.Hidden.{Demand3}
 use Rattle.demands.specs.Idle.{Demand2, KeepsSecrets, AgreesWhereReached, refusesAll, singleReply, storesNothing, echoesAfterwards, inventsRsn}
 use Rattle.demands.specs.OnTheWire.{RefusedOnTheWire}
 use Rattle.demands.specs.Refused.{RefusedChangesNothing, StatesStayValid}
-use Rattle.demands.specs.Replays.{TracesHaveReplies, AgreesExactly, ReplayIsFold, CutInTwo, SecretsInReplay, OnlyAgreeingReach}
+use Rattle.demands.specs.Replays.{TracesHaveReplies, AgreesExactly, ReplayIsFold, CutInTwo, SecretsInReplay, OnlyAgreeingReach, ReplayPlays, RecordsAreAnswered, SecretsInWholeReplay}
 use Rattle.demands.specs.Sequences.{Call, runOf, History}
 use Rattle.demands.specs.Unique.{OneAnswers}
 use Rattle.demands.specs.Writes.{WritesOwnOctets, MemoryKeepsItsLength}
@@ -56,8 +56,10 @@ pub record OnTheBench : Type 0 where
 
 -- Document 02, request 6, "Replay the fitter's trace", of the replay as it is defined.
 pub record Request6 : Type 0 where
-  -- each record of a trace has a whole reply, so that what follows holds for every trace
+  -- a replay that is not refused plays the records of its trace; each has a whole reply, and our machine answers each
+  pub a-replay-plays-its-records : ReplayPlays
   pub traces-have-replies : TracesHaveReplies
+  pub records-are-answered : RecordsAreAnswered
   -- "tell the first record whose reply is not our machine's .. or that all agree"
   pub all-agree-exactly : AgreesExactly
   -- "with its number and the first differing octet, or that all agree, with the final state and memory"; "on a difference, state and memory stand as
@@ -67,5 +69,6 @@ pub record Request6 : Type 0 where
   pub a-trace-in-two-parts : CutInTwo
   -- demand 3 of the replay: "two runs on memories that differ only in octets without the read right give the same answers .. and states"
   pub hidden-octets-stay-hidden : SecretsInReplay
+  pub hidden-from-the-whole-replay : SecretsInWholeReplay
   -- "and for demand 3 a write of that record reached nothing"
   pub a-differing-record-reaches-nothing : OnlyAgreeingReach

@@ -5,12 +5,16 @@ use mathlib.Core.Path.{_≡_}
 use lib.Dec.{eqb}
 use lib.ListN.{length, getD}
 use Rattle.octets.specs.Pick.{pick}
+use Rattle.link.specs.Stored.{stateOf}
+use Rattle.link.specs.declared.state.LinkState.{LinkState}
+use Rattle.link.specs.declared.stored.Stored.the-variants.{State}
 use Rattle.sheet.specs.Walk.{verdictOf}
 use Rattle.sheet.specs.declared.walk.Layout.{Layout}
 use Rattle.sheet.specs.declared.walk.Verdict.the-variants.{Valid}
+use Rattle.slave.specs.Answers.{told}
 use Rattle.slave.specs.Exchange.{Left, exchangeOf}
-use Rattle.replay.specs.Replay.{Replayed, differsAt, playOf}
-use Rattle.replay.specs.Trace.{Traced, says, recordSize, recordsOf, tracedOf}
+use Rattle.replay.specs.Replay.{Replayed, differsAt, playOf, replayOf}
+use Rattle.replay.specs.Trace.{Traced, says, formOf, recordSize, recordsOf, tracedOf}
 use Rattle.demands.specs.Hidden.{DifferOnlyHidden}
 use Rattle.demands.specs.Sequences.{Call, Exchange, runOf, lastState, lastMemory}
 use Rattle.demands.specs.Writes.{Reached}
@@ -95,18 +99,20 @@ pub record CutInTwo : Type 0 where
       → playOf sheet l k state memory (tracedOf l (t ++ u))
       ≡ goesOn (playOf sheet l k state memory (tracedOf l t)) (λ s n. playOf sheet l (k + m) s n (tracedOf l u))
 
--- two replays of one trace from one state, on two memories: the same is told, and what the memories hold afterwards
+-- two replays on the memories m₁ and m₂: the same is told, the state left is the same, and the memories differ nowhere that they did not differ before
+pub record Alike (m₁ m₂ : List ℕ) (r₁ r₂ : Replayed) : Type 0 where
+  pub answers : r₁ .answer ≡ r₂ .answer
+  pub states : r₁ .state ≡ r₂ .state
+  pub kept : (place : ℕ) → getD m₁ place 0 ≡ getD m₂ place 0 → getD (r₁ .memory) place 0 ≡ getD (r₂ .memory) place 0
+
+-- two replays of the same records from one state; besides, the same records agree, and the memories agree wherever an accepted write of theirs reached
 pub record SameReplay (sheet state m₁ m₂ : List ℕ) (l k : ℕ) (ts : List Traced) : Type 0 where
-  pub answers : playOf sheet l k state m₁ ts .answer ≡ playOf sheet l k state m₂ ts .answer
-  pub states : playOf sheet l k state m₁ ts .state ≡ playOf sheet l k state m₂ ts .state
+  pub alike : Alike m₁ m₂ (playOf sheet l k state m₁ ts) (playOf sheet l k state m₂ ts)
   pub fronts : agreeing sheet state m₁ ts ≡ agreeing sheet state m₂ ts
-  pub kept : (place : ℕ) → getD m₁ place 0 ≡ getD m₂ place 0
-      → getD (playOf sheet l k state m₁ ts .memory) place 0 ≡ getD (playOf sheet l k state m₂ ts .memory) place 0
   pub reached : (place : ℕ) → Reached sheet state m₁ (callsOf (agreeing sheet state m₁ ts)) place
       → getD (playOf sheet l k state m₁ ts .memory) place 0 ≡ getD (playOf sheet l k state m₂ ts .memory) place 0
 
--- demand 3 of the replay: two memories that differ only in octets without the read right give the same answer and state; afterwards the memories differ
--- nowhere that they did not differ before, and agree wherever an accepted write of an agreeing record reached
+-- demand 3 of the replay, on memories that differ only in octets without the read right
 abbrev pub SecretsInReplay : Type 0
 SecretsInReplay =
     (sheet : List ℕ) (lay : Layout) → verdictOf sheet ≡ Valid lay
@@ -119,3 +125,35 @@ OnlyAgreeingReach =
     (sheet state memory : List ℕ) (l k : ℕ) (ts : List Traced) → RepliesOf l ts
     → (place : ℕ) → (Reached sheet state memory (callsOf (agreeing sheet state memory ts)) place → ⊥)
     → getD (playOf sheet l k state memory ts .memory) place 0 ≡ getD memory place 0
+
+-- a start that no refusal of document 01 stops: its sheet, state, memory and an enabled link
+pub record Playable (sheet state memory : List ℕ) (lay : Layout) (st : LinkState) : Type 0 where
+  pub valid : verdictOf sheet ≡ Valid lay
+  pub held : stateOf state (lay .l) ≡ State st
+  pub whole : length memory ≡ lay .memory
+  pub on : st .link ≡ 0 → ⊥
+
+-- from such a start a trace of good form is played from its record 0 on, and so what stands above is of the whole replay
+abbrev pub ReplayPlays : Type 0
+ReplayPlays =
+    (sheet state memory trace : List ℕ) (lay : Layout) (st : LinkState) → Playable sheet state memory lay st
+    → length trace ≤ 1073741823 → formOf (lay .l) trace .number ≡ 0
+    → replayOf sheet state memory trace ≡ playOf sheet (lay .l) 0 state memory (tracedOf (lay .l) trace)
+
+-- each call of a run was answered 0
+abbrev pub EachAnswered : List Left → Type 0
+EachAnswered [] = Unit {0}
+EachAnswered (x ∷ xs) = (x .answer ≡ told 0 0) × EachAnswered xs
+
+-- and our machine answers each of the records with a reply of its own: none agrees because its exchange was refused
+abbrev pub RecordsAreAnswered : Type 0
+RecordsAreAnswered =
+    (sheet state memory trace : List ℕ) (lay : Layout) (st : LinkState) → Playable sheet state memory lay st
+    → EachAnswered (runOf sheet state memory (callsOf (tracedOf (lay .l) trace)))
+
+-- demand 3 of the whole replay, refusals and all, for any state and any octets as a trace
+abbrev pub SecretsInWholeReplay : Type 0
+SecretsInWholeReplay =
+    (sheet : List ℕ) (lay : Layout) → verdictOf sheet ≡ Valid lay
+    → (state m₁ m₂ : List ℕ) → DifferOnlyHidden sheet lay m₁ m₂ → (trace : List ℕ)
+    → Alike m₁ m₂ (replayOf sheet state m₁ trace) (replayOf sheet state m₂ trace)

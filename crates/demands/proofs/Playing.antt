@@ -1,0 +1,117 @@
+-- Request 6: from a start that nothing refuses, the replay plays the trace's records, and our machine answers each.
+use mathlib.Core.Bool.{Bool, true, false}
+use mathlib.Core.Path.{_≡_, refl, sym, ap, subst₂, _∙_}
+use mathlib.Core.List.{List}
+use Prim.Native.Nat.{ℕ, zero, suc, _+_, _-_, _*_, _/_, _≤_}
+use native.Mathlib.Nat.{suc-mul, div-mul-le-self}
+use native.Mathlib.Omega.{arith}
+use lib.ListN.{length, drop, length-drop}
+use Rattle.octets.specs.Parts.{part}
+use Rattle.octets.specs.Pick.{pick}
+use Rattle.octets.proofs.Pick.{pick-ge, pick-ne, pick-same}
+use Rattle.frame.specs.Fields.{commandOf}
+use Rattle.link.specs.Stored.{stateOf}
+use Rattle.link.specs.declared.state.LinkState.{LinkState}
+use Rattle.link.specs.declared.stored.Stored.{Stored}
+use Rattle.link.specs.declared.stored.Stored.the-variants.{State, Invalid}
+use Rattle.link.proofs.Back.{read-back, read-valid}
+use Rattle.machine.specs.Outcomes.{outcomeOf}
+use Rattle.sheet.specs.declared.walk.Layout.{Layout}
+use Rattle.slave.specs.Answers.{told, onState}
+use Rattle.slave.specs.Exchange.{Left, refusalOf, exchanged, exchangeOf}
+use Rattle.slave.proofs.Order.{on-valid, on-state}
+use Rattle.replay.specs.Replay.{Replayed, replayed, replayOf}
+use Rattle.replay.specs.Trace.{recordSize, recordsOf}
+use Rattle.replay.specs.declared.told.Told.{Told}
+use Rattle.demands.specs.Answered.{Answered}
+use Rattle.demands.specs.Replays.{callsOf, Alike, Playable, ReplayPlays, EachAnswered, RecordsAreAnswered, SecretsInWholeReplay}
+use Rattle.demands.specs.Sequences.{callOf, runOf}
+use Rattle.demands.proofs.Agreed.{traces-have-replies}
+use Rattle.demands.proofs.Lengths.{memory-keeps-its-length}
+use Rattle.demands.proofs.Lists.{part-length}
+use Rattle.demands.proofs.Memories.{answered-is}
+use Rattle.demands.proofs.Reached.{secrets-in-replay}
+use Rattle.demands.proofs.States.{outcome-valid, outcome-on}
+
+pub replay-plays : ReplayPlays
+unfolding replayOf
+replay-plays sheet state memory trace lay st p short formed =
+    on-valid _ _ _ _ (p .valid) ∙ on-state _ _ _ _ (p .held)
+    ∙ pick-same _ _ (p .whole) ∙ pick-ne _ _ (p .on) ∙ pick-ge _ _ short ∙ pick-same _ _ formed
+
+-- an exchange of a whole record is answered, and leaves such a start again
+module _ (sheet state memory command reply : List ℕ) (lay : Layout) (st : LinkState) (p : Playable sheet state memory lay st)
+    (asked : length command ≡ lay .l) (lent : length reply ≡ lay .l) where
+  answers : Answered sheet state memory command reply lay st
+  unfolding refusalOf
+  answers = record {
+    valid = p .valid;
+    held = p .held;
+    free = pick-same _ _ (p .whole) ∙ pick-same _ _ asked ∙ pick-same _ _ lent ∙ pick-ne _ _ (p .on);
+  }
+
+  answered-zero : exchangeOf sheet state memory command reply .answer ≡ told 0 0
+  unfolding exchanged
+  answered-zero = ap (λ (x : Left). x .answer) (answered-is sheet state memory command reply lay st answers)
+
+  again : Playable sheet (exchangeOf sheet state memory command reply .state) (exchangeOf sheet state memory command reply .memory) lay
+      (outcomeOf sheet lay st (commandOf command) .next)
+  unfolding exchanged
+  again =
+      let z = p .on in
+      let facts = read-valid state (lay .l) st (p .held) .1 in
+      let on = outcome-on sheet lay st (commandOf command) (lay .l) facts (omega (arith, z)) in
+      record {
+        valid = p .valid;
+        held = ap (λ (x : Left). stateOf (x .state) (lay .l)) (answered-is sheet state memory command reply lay st answers)
+            ∙ read-back _ (lay .l) (outcome-valid sheet lay st (commandOf command) (lay .l) facts (omega (arith, z)));
+        whole = memory-keeps-its-length sheet state memory command reply ∙ p .whole;
+        on = λ e. omega (arith, on, e);
+      }
+
+each-answered : (sheet : List ℕ) (lay : Layout) (n : ℕ) (rest : List ℕ) → n * recordSize (lay .l) ≤ length rest
+    → (state memory : List ℕ) (st : LinkState) → Playable sheet state memory lay st
+    → EachAnswered (runOf sheet state memory (callsOf (recordsOf (lay .l) n rest)))
+unfolding recordsOf runOf callOf
+each-answered sheet lay zero rest h state memory st p = tt
+each-answered sheet lay (suc n) rest h state memory st p =
+    let m = suc-mul n (recordSize (lay .l)) in
+    let d = length-drop (recordSize (lay .l)) rest in
+    let asked : length (part rest 1 (lay .l)) ≡ lay .l = part-length rest 1 (lay .l) (omega arith) in
+    let lent : length (part rest (1 + lay .l) (lay .l)) ≡ lay .l = part-length rest (1 + lay .l) (lay .l) (omega arith) in (
+      answered-zero sheet state memory _ _ lay st p asked lent,
+      each-answered sheet lay n (drop (recordSize (lay .l)) rest) (omega arith) _ _ _ (again sheet state memory _ _ lay st p asked lent),
+    )
+
+pub records-are-answered : RecordsAreAnswered
+records-are-answered sheet state memory trace lay st p =
+    each-answered sheet lay (length trace / recordSize (lay .l)) trace (div-mul-le-self (length trace) (recordSize (lay .l))) state memory st p
+
+-- two replays that go by one test, or by one state record, are alike where each way is
+module _ (m₁ m₂ : List ℕ) where
+  by-test : (b : Bool) {x y u w : Replayed} → Alike m₁ m₂ x u → Alike m₁ m₂ y w → Alike m₁ m₂ (pick b x y) (pick b u w)
+  unfolding pick
+  by-test true p q = p
+  by-test false p q = q
+
+  by-held : (h : Stored) {x u : Replayed} {f g : LinkState → Replayed} → Alike m₁ m₂ x u → ((st : LinkState) → Alike m₁ m₂ (f st) (g st))
+      → Alike m₁ m₂ (onState h x f) (onState h u g)
+  unfolding onState
+  by-held (State st) p q = q st
+  by-held Invalid p q = p
+
+  -- a refusal writes nothing
+  refused : (answer : Told) (state : List ℕ) → Alike m₁ m₂ (replayed answer state m₁) (replayed answer state m₂)
+  refused answer state = record { answers = refl; states = refl; kept = λ i e. e }
+
+pub secrets-in-whole-replay : SecretsInWholeReplay
+unfolding replayOf
+secrets-in-whole-replay sheet lay v state m₁ m₂ hidden trace =
+    subst₂ (λ (r₁ r₂ : Replayed). Alike m₁ m₂ r₁ r₂) (sym (on-valid _ _ _ _ v)) (sym (on-valid _ _ _ _ v))
+    (by-held m₁ m₂ (stateOf state (lay .l)) (refused m₁ m₂ _ state)
+    (λ st.
+    subst₂ (λ (r₁ r₂ : Replayed). Alike m₁ m₂ r₁ r₂) (sym (pick-same _ _ (hidden .whole₁))) (sym (pick-same _ _ (hidden .whole₂)))
+    (by-test m₁ m₂ _ (refused m₁ m₂ _ state)
+    (by-test m₁ m₂ _ (refused m₁ m₂ _ state)
+    (by-test m₁ m₂ _ (refused m₁ m₂ _ state)
+    (secrets-in-replay sheet lay v state m₁ m₂ hidden (lay .l) 0 _ (traces-have-replies (lay .l) trace) .alike))))))
