@@ -12,7 +12,7 @@ use Rattle.demands.proofs.Lengths.{memory-keeps-its-length}
 use Rattle.demands.proofs.OnTheWire.{refused-on-the-wire}
 use Rattle.demands.proofs.Owned.{writes-own-octets}
 use Rattle.demands.proofs.Refusals.{refused-changes-nothing, states-stay-valid}
-use Rattle.demands.proofs.Playing.{replay-plays, records-are-answered, secrets-in-whole-replay}
+use Rattle.demands.proofs.Playing.{replay-plays, records-are-answered, secrets-in-whole-replay, refused-replay-writes-nothing}
 use Rattle.demands.proofs.Reached.{secrets-in-replay, only-agreeing-reach}
 use Rattle.demands.proofs.Secrets.{demand-3}
 use Rattle.demands.proofs.Shut.{refuses-all-is-shut-out, single-reply-is-shut-out, stores-nothing-is-shut-out, echoes-afterwards-is-shut-out, invents-rsn-is-shut-out}
@@ -53,6 +53,7 @@ on-the-bench = record { sheet-p = sheet-p-is-valid; cases = bench-cases }
 
 pub request-6 : Request6
 request-6 = record {
+  a-refused-replay-writes-nothing = refused-replay-writes-nothing;
   a-replay-plays-its-records = replay-plays;
   traces-have-replies = traces-have-replies;
   records-are-answered = records-are-answered;

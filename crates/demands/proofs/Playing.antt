@@ -2,13 +2,13 @@
 use mathlib.Core.Bool.{Bool, true, false}
 use mathlib.Core.Path.{_≡_, refl, sym, ap, subst₂, _∙_}
 use mathlib.Core.List.{List}
-use Prim.Native.Nat.{ℕ, zero, suc, _+_, _-_, _*_, _/_, _≤_}
+use Prim.Native.Nat.{ℕ, zero, suc, _+_, _*_, _/_, _≤_}
 use native.Mathlib.Nat.{suc-mul, div-mul-le-self}
 use native.Mathlib.Omega.{arith}
 use lib.ListN.{length, drop, length-drop}
 use Rattle.octets.specs.Parts.{part}
 use Rattle.octets.specs.Pick.{pick}
-use Rattle.octets.proofs.Pick.{pick-ge, pick-ne, pick-same}
+use Rattle.octets.proofs.Pick.{pick-ge, pick-ne, pick-same, pick-both}
 use Rattle.frame.specs.Fields.{commandOf}
 use Rattle.link.specs.Stored.{stateOf}
 use Rattle.link.specs.declared.state.LinkState.{LinkState}
@@ -16,21 +16,24 @@ use Rattle.link.specs.declared.stored.Stored.{Stored}
 use Rattle.link.specs.declared.stored.Stored.the-variants.{State, Invalid}
 use Rattle.link.proofs.Back.{read-back, read-valid}
 use Rattle.machine.specs.Outcomes.{outcomeOf}
+use Rattle.sheet.specs.Walk.{verdictOf}
 use Rattle.sheet.specs.declared.walk.Layout.{Layout}
 use Rattle.slave.specs.Answers.{told, onState}
 use Rattle.slave.specs.Exchange.{Left, refusalOf, exchanged, exchangeOf}
 use Rattle.slave.proofs.Order.{on-valid, on-state}
 use Rattle.replay.specs.Replay.{Replayed, replayed, replayOf}
-use Rattle.replay.specs.Trace.{recordSize, recordsOf}
+use Rattle.replay.specs.Trace.{Traced, recordSize, recordsOf}
 use Rattle.replay.specs.declared.told.Told.{Told}
 use Rattle.demands.specs.Answered.{Answered}
-use Rattle.demands.specs.Replays.{callsOf, Alike, Playable, ReplayPlays, EachAnswered, RecordsAreAnswered, SecretsInWholeReplay}
+use Rattle.demands.specs.Replays.{callsOf, Alike, Playable, ReplayPlays, EachAnswered, RecordsAreAnswered, SecretsInWholeReplay, RefusedReplayWritesNothing}
 use Rattle.demands.specs.Sequences.{callOf, runOf}
 use Rattle.demands.proofs.Agreed.{traces-have-replies}
 use Rattle.demands.proofs.Lengths.{memory-keeps-its-length}
 use Rattle.demands.proofs.Lists.{part-length}
 use Rattle.demands.proofs.Memories.{answered-is}
 use Rattle.demands.proofs.Reached.{secrets-in-replay}
+use Rattle.demands.proofs.Refusals.{by-sheet, by-state}
+use Rattle.demands.proofs.Replays.{Played, ended, differed, agreed, played}
 use Rattle.demands.proofs.States.{outcome-valid, outcome-on}
 
 pub replay-plays : ReplayPlays
@@ -115,3 +118,27 @@ secrets-in-whole-replay sheet lay v state m₁ m₂ hidden trace =
     (by-test m₁ m₂ _ (refused m₁ m₂ _ state)
     (by-test m₁ m₂ _ (refused m₁ m₂ _ state)
     (secrets-in-replay sheet lay v state m₁ m₂ hidden (lay .l) 0 _ (traces-have-replies (lay .l) trace) .alike))))))
+
+-- records that are played are told with 0 or 34
+told-of : (sheet : List ℕ) (l : ℕ) {k : ℕ} {state memory : List ℕ} {ts front : List Traced} {r : Replayed} → Played sheet l k state memory ts front r
+    → (r .answer .number ≡ 0 → ⊥) → (r .answer .number ≡ 34 → ⊥) → ⊥
+told-of sheet l ended n m = n refl
+told-of sheet l (differed w h) n m = m refl
+told-of sheet l (agreed e p) n m = told-of sheet l p n m
+
+-- what a replay that is refused leaves
+abbrev Untouched : List ℕ → List ℕ → Replayed → Type 0
+Untouched state memory r = (r .answer .number ≡ 0 → ⊥) → (r .answer .number ≡ 34 → ⊥) → (r .state ≡ state) × (r .memory ≡ memory)
+
+pub refused-replay-writes-nothing : RefusedReplayWritesNothing
+unfolding replayOf
+refused-replay-writes-nothing sheet state memory trace =
+    by-sheet (Untouched state memory) (verdictOf sheet) _ _ (λ fault place n m. (refl, refl))
+    (λ lay v.
+    by-state (Untouched state memory) (stateOf state (lay .l)) _ _ (λ n m. (refl, refl))
+    (λ st h.
+    pick-both (Untouched state memory) _ (λ n m. (refl, refl))
+    (pick-both (Untouched state memory) _ (λ n m. (refl, refl))
+    (pick-both (Untouched state memory) _ (λ n m. (refl, refl))
+    (pick-both (Untouched state memory) _ (λ n m. (refl, refl))
+    (λ n m. absurd (told-of sheet (lay .l) (played sheet (lay .l) 0 state memory _ (traces-have-replies (lay .l) trace)) n m)))))))

@@ -39,9 +39,41 @@ abbrev pub RepliesOf : ℕ → List Traced → Type 0
 RepliesOf l [] = Unit {0}
 RepliesOf l (t ∷ ts) = (length (t .reply) ≡ l) × RepliesOf l ts
 
--- the records of a trace have it, of every octets
+-- the records of a trace have it, whatever octets it holds
 abbrev pub TracesHaveReplies : Type 0
 TracesHaveReplies = (l : ℕ) (trace : List ℕ) → RepliesOf l (tracedOf l trace)
+
+-- a start that no refusal of document 01 stops: its sheet, state, memory and an enabled link
+pub record Playable (sheet state memory : List ℕ) (lay : Layout) (st : LinkState) : Type 0 where
+  pub valid : verdictOf sheet ≡ Valid lay
+  pub held : stateOf state (lay .l) ≡ State st
+  pub whole : length memory ≡ lay .memory
+  pub on : st .link ≡ 0 → ⊥
+
+-- from such a start a trace of good form, and not too long for an answer's places, is played from its record 0 on, and so what follows is of the whole replay
+abbrev pub ReplayPlays : Type 0
+ReplayPlays =
+    (sheet state memory trace : List ℕ) (lay : Layout) (st : LinkState) → Playable sheet state memory lay st
+    → length trace ≤ 1073741823 → formOf (lay .l) trace .number ≡ 0
+    → replayOf sheet state memory trace ≡ playOf sheet (lay .l) 0 state memory (tracedOf (lay .l) trace)
+
+-- each call of a run was answered 0
+abbrev pub EachAnswered : List Left → Type 0
+EachAnswered [] = Unit {0}
+EachAnswered (x ∷ xs) = (x .answer ≡ told 0 0) × EachAnswered xs
+
+-- and our machine answers each of the records with a reply of its own: none agrees because its exchange was refused
+abbrev pub RecordsAreAnswered : Type 0
+RecordsAreAnswered =
+    (sheet state memory trace : List ℕ) (lay : Layout) (st : LinkState) → Playable sheet state memory lay st
+    → EachAnswered (runOf sheet state memory (callsOf (tracedOf (lay .l) trace)))
+
+-- demand 1 of the replay: one that neither agrees nor differs is refused, "and nothing is written"
+abbrev pub RefusedReplayWritesNothing : Type 0
+RefusedReplayWritesNothing =
+    (sheet state memory trace : List ℕ) → (replayOf sheet state memory trace .answer .number ≡ 0 → ⊥)
+    → (replayOf sheet state memory trace .answer .number ≡ 34 → ⊥)
+    → (replayOf sheet state memory trace .state ≡ state) × (replayOf sheet state memory trace .memory ≡ memory)
 
 -- the replies of a run, and those of a trace
 abbrev pub runReplies : List Left → List (List ℕ)
@@ -118,6 +150,13 @@ SecretsInReplay =
     (sheet : List ℕ) (lay : Layout) → verdictOf sheet ≡ Valid lay
     → (state m₁ m₂ : List ℕ) → DifferOnlyHidden sheet lay m₁ m₂ → (l k : ℕ) (ts : List Traced) → RepliesOf l ts → SameReplay sheet state m₁ m₂ l k ts
 
+-- demand 3 of the whole replay, refusals and all, for any state and any octets as a trace
+abbrev pub SecretsInWholeReplay : Type 0
+SecretsInWholeReplay =
+    (sheet : List ℕ) (lay : Layout) → verdictOf sheet ≡ Valid lay
+    → (state m₁ m₂ : List ℕ) → DifferOnlyHidden sheet lay m₁ m₂ → (trace : List ℕ)
+    → Alike m₁ m₂ (replayOf sheet state m₁ trace) (replayOf sheet state m₂ trace)
+
 -- "for demand 3 a write of that record reached nothing": a place that no accepted write of an agreeing record reached holds what it held, whatever the
 -- differing record would have written
 abbrev pub OnlyAgreeingReach : Type 0
@@ -125,35 +164,3 @@ OnlyAgreeingReach =
     (sheet state memory : List ℕ) (l k : ℕ) (ts : List Traced) → RepliesOf l ts
     → (place : ℕ) → (Reached sheet state memory (callsOf (agreeing sheet state memory ts)) place → ⊥)
     → getD (playOf sheet l k state memory ts .memory) place 0 ≡ getD memory place 0
-
--- a start that no refusal of document 01 stops: its sheet, state, memory and an enabled link
-pub record Playable (sheet state memory : List ℕ) (lay : Layout) (st : LinkState) : Type 0 where
-  pub valid : verdictOf sheet ≡ Valid lay
-  pub held : stateOf state (lay .l) ≡ State st
-  pub whole : length memory ≡ lay .memory
-  pub on : st .link ≡ 0 → ⊥
-
--- from such a start a trace of good form is played from its record 0 on, and so what stands above is of the whole replay
-abbrev pub ReplayPlays : Type 0
-ReplayPlays =
-    (sheet state memory trace : List ℕ) (lay : Layout) (st : LinkState) → Playable sheet state memory lay st
-    → length trace ≤ 1073741823 → formOf (lay .l) trace .number ≡ 0
-    → replayOf sheet state memory trace ≡ playOf sheet (lay .l) 0 state memory (tracedOf (lay .l) trace)
-
--- each call of a run was answered 0
-abbrev pub EachAnswered : List Left → Type 0
-EachAnswered [] = Unit {0}
-EachAnswered (x ∷ xs) = (x .answer ≡ told 0 0) × EachAnswered xs
-
--- and our machine answers each of the records with a reply of its own: none agrees because its exchange was refused
-abbrev pub RecordsAreAnswered : Type 0
-RecordsAreAnswered =
-    (sheet state memory trace : List ℕ) (lay : Layout) (st : LinkState) → Playable sheet state memory lay st
-    → EachAnswered (runOf sheet state memory (callsOf (tracedOf (lay .l) trace)))
-
--- demand 3 of the whole replay, refusals and all, for any state and any octets as a trace
-abbrev pub SecretsInWholeReplay : Type 0
-SecretsInWholeReplay =
-    (sheet : List ℕ) (lay : Layout) → verdictOf sheet ≡ Valid lay
-    → (state m₁ m₂ : List ℕ) → DifferOnlyHidden sheet lay m₁ m₂ → (trace : List ℕ)
-    → Alike m₁ m₂ (replayOf sheet state m₁ trace) (replayOf sheet state m₂ trace)
