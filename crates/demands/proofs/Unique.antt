@@ -4,7 +4,7 @@ use Prim.Native.Nat.{ℕ}
 use mathlib.Core.List.{List}
 use Rattle.slave.specs.Calls.{After, after}
 use Rattle.slave.specs.Exchange.{Left, left}
-use Rattle.type24.specs.Packed.{PackedAfter, packedAfter, PackedLeft, packedLeft}
+use Rattle.type24.specs.Packed.{PackedAfter, packedAfter, PackedLeft, packedLeft, PackedReplay, packedReplay}
 use Rattle.demands.specs.Unique.{OneAnswer, OneAnswers}
 
 pub one-answer : OneAnswer
@@ -37,6 +37,12 @@ of-packed-left defined r q s t m n o p a b =
       ap (λ (x : PackedLeft). x .reply) e,
     )
 
+of-packed-replay : (defined : PackedReplay) (r q : ℕ) (s t m n : List ℕ) → packedReplay r s m ≡ defined → packedReplay q t n ≡ defined
+    → (r ≡ q) × (s ≡ t) × (m ≡ n)
+of-packed-replay defined r q s t m n a b =
+    let e = one-answer PackedReplay (packedReplay r s m) (packedReplay q t n) defined a b in
+    (ap (λ (x : PackedReplay). x .answer) e, ap (λ (x : PackedReplay). x .state) e, ap (λ (x : PackedReplay). x .memory) e)
+
 pub one-answers : OneAnswers
 one-answers = record {
   t24-sheet = λ sheet r q a b. one-answer ℕ r q _ a b;
@@ -44,6 +50,7 @@ one-answers = record {
   t24-reset = λ sheet state r q s t a b. of-packed-after _ r q s t a b;
   t24-enable = λ sheet state r q s t a b. of-packed-after _ r q s t a b;
   t24-exchange = λ sheet state memory command reply r q s t m n o p a b. of-packed-left _ r q s t m n o p a b;
+  t24-replay = λ sheet state memory trace r q s t m n a b. of-packed-replay _ r q s t m n a b;
   slave-reset = λ sheet state r q s t a b. of-after _ r q s t a b;
   slave-enable = λ sheet state r q s t a b. of-after _ r q s t a b;
   slave-exchange = λ sheet state memory command reply r q s t m n o p a b. of-left _ r q s t m n o p a b;

@@ -8,7 +8,8 @@ use Rattle.slave.specs.Answers.{sheetAnswer}
 use Rattle.slave.specs.Calls.{after, resetOf, enableOf}
 use Rattle.slave.specs.Exchange.{left, exchangeOf}
 use Rattle.slave.specs.declared.answers.Answer.{Answer}
-use Rattle.type24.specs.Packed.{packed, packedAfter, afterCall, packedLeft, leftByCall, lengthsOf}
+use Rattle.replay.specs.Replay.{replayOf}
+use Rattle.type24.specs.Packed.{packed, packedAfter, afterCall, packedLeft, leftByCall, lengthsOf, packedReplay, byReplay}
 
 -- the law: two values that equal one definition are equal
 abbrev pub OneAnswer : Type 1
@@ -38,6 +39,14 @@ OnePackedExchange =
     → packedLeft q t n p ≡ leftByCall (exchangeOf sheet state memory command reply)
     → (r ≡ q) × (s ≡ t) × (m ≡ n) × (o ≡ p)
 
+-- t24_replay
+abbrev pub OnePackedReplay : Type 0
+OnePackedReplay =
+    (sheet state memory trace : List ℕ) (r q : ℕ) (s t m n : List ℕ)
+    → packedReplay r s m ≡ byReplay (replayOf sheet state memory trace)
+    → packedReplay q t n ≡ byReplay (replayOf sheet state memory trace)
+    → (r ≡ q) × (s ≡ t) × (m ≡ n)
+
 -- the promises of slave: reset, enable, exchange
 abbrev pub OneReset : Type 0
 OneReset =
@@ -60,6 +69,7 @@ pub record OneAnswers : Type 0 where
   pub t24-reset : OnePackedReset
   pub t24-enable : OnePackedEnable
   pub t24-exchange : OnePackedExchange
+  pub t24-replay : OnePackedReplay
   pub slave-reset : OneReset
   pub slave-enable : OneEnable
   pub slave-exchange : OneExchange
