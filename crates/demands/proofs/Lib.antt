@@ -24,5 +24,6 @@ pub mod Folded
 pub mod Cut
 pub mod Reached
 pub mod Playing
+pub mod CutWhole
 pub mod Unique
 pub mod Demands

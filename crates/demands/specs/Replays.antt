@@ -131,6 +131,13 @@ pub record CutInTwo : Type 0 where
       → playOf sheet l k state memory (tracedOf l (t ++ u))
       ≡ goesOn (playOf sheet l k state memory (tracedOf l t)) (λ s n. playOf sheet l (k + m) s n (tracedOf l u))
 
+-- the form of a trace behind m whole records: what is behind has a fault where the whole has one, at the same octet, which stands behind theirs
+abbrev pub FormsJoin : Type 0
+FormsJoin =
+    (l m : ℕ) (t u : List ℕ) → length t ≡ m * recordSize l → formOf l t .number ≡ 0
+    → (formOf l u .number ≡ 0 → formOf l (t ++ u) .number ≡ 0)
+    × ((formOf l u .number ≡ 0 → ⊥) → formOf l (t ++ u) ≡ says (formOf l u .number) (m * recordSize l + formOf l u .place))
+
 -- two replays on the memories m₁ and m₂: the same is told, the state left is the same, and the memories differ nowhere that they did not differ before
 pub record Alike (m₁ m₂ : List ℕ) (r₁ r₂ : Replayed) : Type 0 where
   pub answers : r₁ .answer ≡ r₂ .answer

@@ -1,0 +1,146 @@
+-- Request 6: the form of a trace cut in two.
+use mathlib.Core.Logic.{⊎-elim}
+use mathlib.Core.Path.{_≡_, refl, sym, ap, subst, subst₂, _∙_}
+use mathlib.Core.Bool.{not}
+use mathlib.Core.List.{List, _++_}
+use Prim.Native.Nat.{ℕ, zero, suc, _+_, _*_, _≤_, _<_}
+use native.Mathlib.Nat.{suc-mul, suc-add, add-mul}
+use native.Mathlib.Omega.{arith}
+use borrow.Author.Tests.{eqb-true, eqb-false, ltb-false, not-false}
+use lib.Dec.{eqb, ltb}
+use lib.ListN.{length, getD, drop, length-append, length-drop, List·getD-append}
+use lib.Seq.{drop-append-le, drop-append-add}
+use Rattle.octets.specs.Pick.{pick}
+use Rattle.octets.proofs.Cases.{eq-or-ne, lt-or-le}
+use Rattle.octets.proofs.Pick.{pick-eq, pick-ne, pick-ge, pick-le, pick-gt, pick-same, passed}
+use Rattle.replay.specs.Trace.{says, kindLength, recordSize, faultOf, recordAt, formed, formFrom, formOf}
+use Rattle.replay.specs.declared.form.Record.{Record}
+use Rattle.replay.specs.declared.form.Record.the-variants.{End, Whole, Bad}
+use Rattle.replay.specs.declared.told.Told.{Told}
+use Rattle.demands.specs.Replays.{FormsJoin}
+
+-- the form y of what stands behind p octets, in the form x of the whole
+abbrev Joined : ℕ → Told → Told → Type 0
+Joined p x y = (y .number ≡ 0 → x .number ≡ 0) × ((y .number ≡ 0 → ⊥) → x ≡ says (y .number) (p + y .place))
+
+form-end : (l : ℕ) (s : List ℕ) (k n : ℕ) → length s ≤ k * recordSize l → formFrom l s k n ≡ says 0 0
+unfolding formFrom formed recordAt
+form-end l s k zero h = refl
+form-end l s k (suc n) h = ap (λ (r : Record). formed r (k * recordSize l) (formFrom l s (suc k) n)) (pick-le _ _ h)
+
+-- a form that tells no fault goes on behind a record that is there, and the record is whole
+form-on : (l : ℕ) (s : List ℕ) (k n : ℕ) → k * recordSize l < length s → formFrom l s k (suc n) .number ≡ 0
+    → (faultOf l (drop (k * recordSize l) s) ≡ 0) × (formFrom l s (suc k) n .number ≡ 0)
+unfolding formFrom formed recordAt
+form-on l s k n h z =
+    let f = faultOf l (drop (k * recordSize l) s) in
+    let next = formFrom l s (suc k) n in
+    let there = pick-gt _ _ h in
+    ⊎-elim
+    (λ (e : f ≡ 0).
+    (e, sym (ap (λ (r : Record). formed r (k * recordSize l) next .number) (there ∙ pick-eq _ _ e)) ∙ z))
+    (λ (e : f ≡ 0 → ⊥). absurd (e (sym (ap (λ (r : Record). formed r (k * recordSize l) next .number) (there ∙ pick-ne _ _ e)) ∙ z)))
+    (eq-or-ne f 0)
+
+form-step : (l : ℕ) (s : List ℕ) (k n : ℕ) → k * recordSize l < length s → faultOf l (drop (k * recordSize l) s) ≡ 0
+    → formFrom l s k (suc n) ≡ formFrom l s (suc k) n
+unfolding formFrom formed recordAt
+form-step l s k n h e = ap (λ (r : Record). formed r (k * recordSize l) (formFrom l s (suc k) n)) (pick-gt _ _ h ∙ pick-eq _ _ e)
+
+-- a whole record stays whole before further octets
+still-whole : (l : ℕ) (s u : List ℕ) → 0 < length s → faultOf l s ≡ 0 → faultOf l (s ++ u) ≡ 0
+unfolding faultOf
+still-whole l s u some e =
+    let p₁ = passed (eqb (kindLength (getD s 0 0)) 0) (λ z. let k : ⊥ = omega arith in k) e in
+    let p₂ = passed (not (eqb (kindLength (getD s 0 0)) l)) (λ z. let k : ⊥ = omega arith in k) (p₁ .1) in
+    let p₃ = passed (ltb (length s) (recordSize l)) (λ z. let k : ⊥ = omega arith in k) (p₂ .1) in
+    let kind : kindLength (getD (s ++ u) 0 0) ≡ kindLength (getD s 0 0) = ap kindLength (List·getD-append s u 0 0 some) in
+    let a = length-append s u in
+    let c = ltb-false (length s) (recordSize l) (p₃ .0) in
+    let n = eqb-false (kindLength (getD s 0 0)) 0 (p₁ .0) in
+    let enough : recordSize l ≤ length (s ++ u) = omega arith in
+    pick-ne _ _ (λ z. n (sym kind ∙ z))
+    ∙ pick-same _ _ (kind ∙ eqb-true _ l (not-false _ (p₂ .0)))
+    ∙ pick-ge _ _ enough
+
+-- what stands behind t is what stands in u
+record-behind : (l : ℕ) (t u : List ℕ) (at : ℕ) → recordAt l (t ++ u) (length t + at) ≡ recordAt l u at
+unfolding recordAt
+record-behind l t u at =
+    let a = length-append t u in
+    ⊎-elim
+    (λ (h : at < length u).
+    let h′ : length t + at < length (t ++ u) = omega arith in
+    pick-gt _ _ h′
+    ∙ ap (λ (rest : List ℕ). pick (eqb (faultOf l rest) 0) Whole (Bad (faultOf l rest))) (drop-append-add t u at)
+    ∙ sym (pick-gt _ _ h))
+    (λ (h : length u ≤ at).
+    let h′ : length (t ++ u) ≤ length t + at = omega arith in
+    pick-le _ _ h′ ∙ sym (pick-le _ _ h))
+    (lt-or-le at (length u))
+
+-- one record's form, from its place in what is behind and in the whole
+joined-formed : (p at : ℕ) (r : Record) (x y : Told) → Joined p x y → Joined p (formed r (p + at) x) (formed r at y)
+unfolding formed
+joined-formed p at End x y j = (λ z. refl, λ n. absurd (n refl))
+joined-formed p at Whole x y j = j
+joined-formed p at (Bad fault) x y j = (λ z. z, λ n. refl)
+
+module _ (l m : ℕ) (t u : List ℕ) (e : length t ≡ m * recordSize l) where
+  -- the records behind t, for any two fuels that are enough
+  behind : (n i k : ℕ) → length u ≤ k * recordSize l + n → length u ≤ k * recordSize l + i
+      → Joined (m * recordSize l) (formFrom l (t ++ u) (k + m) n) (formFrom l u k i)
+  unfolding formFrom
+  behind zero i k h g = rw (form-end l u k i (omega arith)) (λ z. refl, λ n. absurd (n refl))
+  behind (suc n) zero k h g =
+      let a = length-append t u in
+      let q = add-mul k m (recordSize l) in
+      rw (form-end l (t ++ u) (k + m) (suc n) (omega arith)) (λ z. refl, λ n. absurd (n refl))
+  behind (suc n) (suc i) k h g =
+      let s = suc-mul k (recordSize l) in
+      let at : (k + m) * recordSize l ≡ m * recordSize l + k * recordSize l = let q = add-mul k m (recordSize l) in omega arith in
+      let same : recordAt l (t ++ u) ((k + m) * recordSize l) ≡ recordAt l u (k * recordSize l) =
+      ap (recordAt l (t ++ u)) (at ∙ ap (λ (i : ℕ). i + k * recordSize l) (sym e)) ∙ record-behind l t u (k * recordSize l) in
+      let next : Joined (m * recordSize l) (formFrom l (t ++ u) (suc (k + m)) n) (formFrom l u (suc k) i) =
+      subst (λ (j : ℕ). Joined (m * recordSize l) (formFrom l (t ++ u) j n) (formFrom l u (suc k) i)) (suc-add k m)
+      (behind n i (suc k) (omega arith) (omega arith)) in
+      subst₂ (λ (r : Record) (place : ℕ). Joined (m * recordSize l) (formed r place (formFrom l (t ++ u) (suc (k + m)) n)) (formFrom l u k (suc i)))
+      (sym same) (sym at) (joined-formed (m * recordSize l) (k * recordSize l) (recordAt l u (k * recordSize l)) _ _ next)
+
+  inside : (j k : ℕ) → k + suc j ≡ m → k * recordSize l < length t
+  inside j k c =
+      let q = add-mul k (suc j) (recordSize l) in
+      let w = suc-mul j (recordSize l) in
+      let x = ap (λ (x : ℕ). x * recordSize l) c in
+      omega arith
+
+  -- the j records of t from its record k on, which are whole in the whole as well
+  before : (j k n i : ℕ) → k + j ≡ m → length t < k * recordSize l + i → length (t ++ u) < k * recordSize l + n → formFrom l t k i .number ≡ 0
+      → Joined (m * recordSize l) (formFrom l (t ++ u) k n) (formOf l u)
+  before zero k n i c f h z =
+      let a = length-append t u in
+      let here : k ≡ 0 + m = omega arith in
+      let same : k ≡ m = omega arith in
+      let there = ap (λ (x : ℕ). x * recordSize l) same in
+      subst (λ (x : ℕ). Joined (m * recordSize l) (formFrom l (t ++ u) x n) (formOf l u)) (sym here)
+      (behind n (suc (length u)) 0 (omega arith) (omega arith))
+  before (suc j) k zero i c f h z =
+      let a = length-append t u in
+      let b = inside j k c in
+      absurd (let x : ⊥ = omega arith in x)
+  before (suc j) k (suc n) zero c f h z =
+      let b = inside j k c in
+      absurd (let x : ⊥ = omega arith in x)
+  before (suc j) k (suc n) (suc i) c f h z =
+      let a = length-append t u in
+      let s = suc-mul k (recordSize l) in
+      let b = inside j k c in
+      let d = length-drop (k * recordSize l) t in
+      let on = form-on l t k i b z in
+      let whole : faultOf l (drop (k * recordSize l) (t ++ u)) ≡ 0 =
+      ap (faultOf l) (drop-append-le (k * recordSize l) t u (omega arith)) ∙ still-whole l (drop (k * recordSize l) t) u (omega arith) (on .0) in
+      subst (λ (x : Told). Joined (m * recordSize l) x (formOf l u)) (sym (form-step l (t ++ u) k n (omega arith) whole))
+      (before j (suc k) n i (omega arith) (omega arith) (omega arith) (on .1))
+
+pub forms-join : FormsJoin
+forms-join l m t u e z = before l m t u e m 0 (suc (length (t ++ u))) (suc (length t)) (omega arith) (omega arith) (omega arith) z
