@@ -1,23 +1,32 @@
--- Request 6: the form of a trace cut in two.
+-- Request 6: a trace cut in two, its form and its whole replay.
+--     forms-join            the form of the whole is that of what is behind
+--     replay-cut-in-two     and so is the replay, from where the first part ended
 use mathlib.Core.Logic.{⊎-elim}
 use mathlib.Core.Path.{_≡_, refl, sym, ap, subst, subst₂, _∙_}
-use mathlib.Core.Bool.{not}
-use mathlib.Core.List.{List, _++_}
-use Prim.Native.Nat.{ℕ, zero, suc, _+_, _*_, _≤_, _<_}
-use native.Mathlib.Nat.{suc-mul, suc-add, add-mul}
+use mathlib.Core.Bool.{Bool, true, false, not}
+use mathlib.Core.List.{List, [], _∷_, _++_}
+use Prim.Native.Nat.{ℕ, zero, suc, _+_, _*_, _/_, _≤_, _<_}
+use native.Mathlib.Nat.{suc-mul, suc-add, add-mul, div-mul-le-self}
 use native.Mathlib.Omega.{arith}
 use borrow.Author.Tests.{eqb-true, eqb-false, ltb-false, not-false}
 use lib.Dec.{eqb, ltb}
 use lib.ListN.{length, getD, drop, length-append, length-drop, List·getD-append}
 use lib.Seq.{drop-append-le, drop-append-add}
+use Rattle.octets.specs.Parts.{part}
 use Rattle.octets.specs.Pick.{pick}
 use Rattle.octets.proofs.Cases.{eq-or-ne, lt-or-le}
-use Rattle.octets.proofs.Pick.{pick-eq, pick-ne, pick-ge, pick-le, pick-gt, pick-same, passed}
-use Rattle.replay.specs.Trace.{says, kindLength, recordSize, faultOf, recordAt, formed, formFrom, formOf}
+use Rattle.octets.proofs.Pick.{pick-yes, pick-no, pick-eq, pick-ne, pick-ge, pick-le, pick-gt, pick-same, pick-both, passed}
+use Rattle.link.specs.declared.state.LinkState.{LinkState}
+use Rattle.sheet.specs.declared.walk.Layout.{Layout}
+use Rattle.replay.specs.Replay.{Replayed, replayed, Stepped, steppedOf, onStep, playOf, replayOf}
+use Rattle.replay.specs.Trace.{Traced, traced, says, kindLength, recordSize, faultOf, recordAt, formed, formFrom, formOf, recordsOf, tracedOf}
 use Rattle.replay.specs.declared.form.Record.{Record}
 use Rattle.replay.specs.declared.form.Record.the-variants.{End, Whole, Bad}
 use Rattle.replay.specs.declared.told.Told.{Told}
-use Rattle.demands.specs.Replays.{FormsJoin}
+use Rattle.demands.specs.Replays.{ours, Playable, goesOn, FormsJoin, further, ReplayCutInTwo}
+use Rattle.demands.proofs.Cut.{cut-in-two}
+use Rattle.demands.proofs.Lists.{part-length}
+use Rattle.demands.proofs.Playing.{replay-plays, again}
 
 -- the form y of what stands behind p octets, in the form x of the whole
 abbrev Joined : ℕ → Told → Told → Type 0
@@ -144,3 +153,63 @@ module _ (l m : ℕ) (t u : List ℕ) (e : length t ≡ m * recordSize l) where
 
 pub forms-join : FormsJoin
 forms-join l m t u e z = before l m t u e m 0 (suc (length (t ++ u))) (suc (length t)) (omega arith) (omega arith) (omega arith) z
+
+further-both : (m : ℕ) (b : Bool) {x y : Replayed} (v w : Replayed) → x ≡ further m v → y ≡ further m w → pick b x y ≡ further m (pick b v w)
+unfolding pick
+further-both m true v w p q = p
+further-both m false v w p q = q
+
+-- a count of records that begins m further moves what is told and nothing else
+counted : (sheet : List ℕ) (l m k : ℕ) (state memory : List ℕ) (ts : List Traced)
+    → playOf sheet l (k + m) state memory ts ≡ further m (playOf sheet l k state memory ts)
+unfolding playOf onStep
+counted sheet l m k state memory [] = ap (λ (n : ℕ). replayed (says 0 (k + n)) state memory) (sym (pick-yes _ _ refl))
+counted sheet l m k state memory (t ∷ ts) =
+    let x = steppedOf l state memory (t .reply) (ours sheet state memory t) in
+    let e : 64 * (k + m) + x .at ≡ 64 * k + x .at + 64 * m = omega arith in
+    further-both m _ (replayed (says 34 (64 * k + x .at)) (x .state) (x .memory)) (playOf sheet l (suc k) (x .state) (x .memory) ts)
+    (ap (λ (n : ℕ). replayed (says 34 n) (x .state) (x .memory)) (e ∙ ap (λ (n : ℕ). 64 * k + x .at + n) (sym (pick-no _ _ refl))))
+    (ap (λ (n : ℕ). playOf sheet l n (x .state) (x .memory) ts) (sym (suc-add k m)) ∙ counted sheet l m (suc k) (x .state) (x .memory) ts)
+
+-- a replay ends where another can start
+module _ (sheet : List ℕ) (lay : Layout) where
+  abbrev Startable : List ℕ → List ℕ → Type 0
+  Startable state memory = (st : LinkState) × Playable sheet state memory lay st
+
+  behind-step : (state memory : List ℕ) (t : Traced) → length (t .command) ≡ lay .l → length (t .reply) ≡ lay .l → Startable state memory
+      → Startable (steppedOf (lay .l) state memory (t .reply) (ours sheet state memory t) .state)
+      (steppedOf (lay .l) state memory (t .reply) (ours sheet state memory t) .memory)
+  unfolding steppedOf
+  behind-step state memory t asked lent p =
+      pick-both (λ (x : Stepped). Startable (x .state) (x .memory)) _ (_, again sheet state memory (t .command) (t .reply) lay (p .0) (p .1) asked lent) p
+
+  behind-records : (n : ℕ) (rest : List ℕ) → n * recordSize (lay .l) ≤ length rest → (k : ℕ) (state memory : List ℕ) → Startable state memory
+      → Startable (playOf sheet (lay .l) k state memory (recordsOf (lay .l) n rest) .state)
+      (playOf sheet (lay .l) k state memory (recordsOf (lay .l) n rest) .memory)
+  unfolding playOf onStep recordsOf
+  behind-records zero rest h k state memory p = p
+  behind-records (suc n) rest h k state memory p =
+      let m = suc-mul n (recordSize (lay .l)) in
+      let d = length-drop (recordSize (lay .l)) rest in
+      let t = traced (part rest 1 (lay .l)) (part rest (1 + lay .l) (lay .l)) in
+      let next = behind-step state memory t (part-length rest 1 (lay .l) (omega arith)) (part-length rest (1 + lay .l) (lay .l) (omega arith)) p in
+      pick-both (λ (r : Replayed). Startable (r .state) (r .memory)) _ next
+      (behind-records n (drop (recordSize (lay .l)) rest) (omega arith) (suc k) _ _ next)
+
+  behind-trace : (trace state memory : List ℕ) → Startable state memory
+      → Startable (playOf sheet (lay .l) 0 state memory (tracedOf (lay .l) trace) .state) (playOf sheet (lay .l) 0 state memory (tracedOf (lay .l) trace) .memory)
+  behind-trace trace state memory p =
+      behind-records (length trace / recordSize (lay .l)) trace (div-mul-le-self (length trace) (recordSize (lay .l))) 0 state memory p
+
+pub replay-cut-in-two : ReplayCutInTwo
+replay-cut-in-two sheet state memory t u lay st m p short e first second =
+    let a = length-append t u in
+    let r = playOf sheet (lay .l) 0 state memory (tracedOf (lay .l) t) in
+    let there = behind-trace sheet lay t state memory (st, p) in
+    let front = replay-plays sheet state memory t lay st p (omega arith) first in
+    let back = replay-plays sheet (r .state) (r .memory) u lay (there .0) (there .1) (omega arith) second in
+    replay-plays sheet state memory (t ++ u) lay st p short (forms-join (lay .l) m t u e first .0 second)
+    ∙ cut-in-two .the-trace sheet state memory (lay .l) 0 m t u e
+    ∙ ap (λ (x : Replayed). pick (eqb (r .answer .number) 0) x r)
+    (counted sheet (lay .l) m 0 (r .state) (r .memory) (tracedOf (lay .l) u) ∙ ap (further m) (sym back))
+    ∙ ap (λ (x : Replayed). goesOn x (λ s n. further m (replayOf sheet s n u))) (sym front)

@@ -5,7 +5,7 @@ use Rattle.demands.proofs.Alone.{refuses-all-keeps-secrets, single-repl
 use Rattle.demands.proofs.Bench.{sheet-p-is-valid, bench-cases}
 use Rattle.demands.proofs.Bodies.{body-in-the-reply}
 use Rattle.demands.proofs.Cut.{cut-in-two}
-use Rattle.demands.proofs.CutWhole.{forms-join}
+use Rattle.demands.proofs.CutWhole.{forms-join, replay-cut-in-two}
 use Rattle.demands.proofs.Exact.{acceptance-is-exact, rights-over-whole-span}
 use Rattle.demands.proofs.Folded.{replay-is-fold}
 use Rattle.demands.proofs.Histories.{history-is-run}
@@ -62,6 +62,7 @@ request-6 = record {
   the-replay-is-a-fold = replay-is-fold;
   a-trace-in-two-parts = cut-in-two;
   its-form-in-two-parts = forms-join;
+  a-replay-in-two-parts = replay-cut-in-two;
   hidden-octets-stay-hidden = secrets-in-replay;
   hidden-from-the-whole-replay = secrets-in-whole-replay;
   a-differing-record-reaches-nothing = only-agreeing-reach;

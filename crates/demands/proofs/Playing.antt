@@ -57,7 +57,7 @@ module _ (sheet state memory command reply : List ℕ) (lay : Layout) (st : Link
   unfolding exchanged
   answered-zero = ap (λ (x : Left). x .answer) (answered-is sheet state memory command reply lay st answers)
 
-  again : Playable sheet (exchangeOf sheet state memory command reply .state) (exchangeOf sheet state memory command reply .memory) lay
+  pub again : Playable sheet (exchangeOf sheet state memory command reply .state) (exchangeOf sheet state memory command reply .memory) lay
       (outcomeOf sheet lay st (commandOf command) .next)
   unfolding exchanged
   again =

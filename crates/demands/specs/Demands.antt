@@ -10,7 +10,7 @@ use Rattle.demands.specs.Hidden.{Demand3}
 use Rattle.demands.specs.Idle.{Demand2, KeepsSecrets, AgreesWhereReached, refusesAll, singleReply, storesNothing, echoesAfterwards, inventsRsn}
 use Rattle.demands.specs.OnTheWire.{RefusedOnTheWire}
 use Rattle.demands.specs.Refused.{RefusedChangesNothing, StatesStayValid}
-use Rattle.demands.specs.Replays.{TracesHaveReplies, AgreesExactly, ReplayIsFold, CutInTwo, FormsJoin, SecretsInReplay, OnlyAgreeingReach, ReplayPlays, RecordsAreAnswered, SecretsInWholeReplay, RefusedReplayWritesNothing}
+use Rattle.demands.specs.Replays.{TracesHaveReplies, AgreesExactly, ReplayIsFold, CutInTwo, FormsJoin, ReplayCutInTwo, SecretsInReplay, OnlyAgreeingReach, ReplayPlays, RecordsAreAnswered, SecretsInWholeReplay, RefusedReplayWritesNothing}
 use Rattle.demands.specs.Sequences.{Call, runOf, History}
 use Rattle.demands.specs.Unique.{OneAnswers}
 use Rattle.demands.specs.Writes.{WritesOwnOctets, MemoryKeepsItsLength}
@@ -70,6 +70,7 @@ pub record Request6 : Type 0 where
   -- a trace that is replayed in two parts, each from where the last ended, is told as the whole is
   pub a-trace-in-two-parts : CutInTwo
   pub its-form-in-two-parts : FormsJoin
+  pub a-replay-in-two-parts : ReplayCutInTwo
   -- demand 3 of the replay: "two runs on memories that differ only in octets without the read right give the same answers .. and states"
   pub hidden-octets-stay-hidden : SecretsInReplay
   pub hidden-from-the-whole-replay : SecretsInWholeReplay

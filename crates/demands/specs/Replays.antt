@@ -13,7 +13,7 @@ use Rattle.sheet.specs.declared.walk.Layout.{Layout}
 use Rattle.sheet.specs.declared.walk.Verdict.the-variants.{Valid}
 use Rattle.slave.specs.Answers.{told}
 use Rattle.slave.specs.Exchange.{Left, exchangeOf}
-use Rattle.replay.specs.Replay.{Replayed, differsAt, playOf, replayOf}
+use Rattle.replay.specs.Replay.{Replayed, replayed, differsAt, playOf, replayOf}
 use Rattle.replay.specs.Trace.{Traced, says, formOf, recordSize, recordsOf, tracedOf}
 use Rattle.demands.specs.Hidden.{DifferOnlyHidden}
 use Rattle.demands.specs.Sequences.{Call, Exchange, runOf, lastState, lastMemory}
@@ -137,6 +137,17 @@ FormsJoin =
     (l m : ℕ) (t u : List ℕ) → length t ≡ m * recordSize l → formOf l t .number ≡ 0
     → (formOf l u .number ≡ 0 → formOf l (t ++ u) .number ≡ 0)
     × ((formOf l u .number ≡ 0 → ⊥) → formOf l (t ++ u) ≡ says (formOf l u .number) (m * recordSize l + formOf l u .place))
+
+-- a replay told with its record m further: 0 has the number of records as its place, and 34 has 64 times the record's number in it
+abbrev pub further : ℕ → Replayed → Replayed
+further m r = replayed (says (r .answer .number) (r .answer .place + pick (eqb (r .answer .number) 0) m (64 * m))) (r .state) (r .memory)
+
+-- the whole replay cut in two: that of t and u is that of u from where t's ended, told with the m records of t before it; where t's told 34, it is t's
+abbrev pub ReplayCutInTwo : Type 0
+ReplayCutInTwo =
+    (sheet state memory t u : List ℕ) (lay : Layout) (st : LinkState) (m : ℕ) → Playable sheet state memory lay st
+    → length (t ++ u) ≤ 1073741823 → length t ≡ m * recordSize (lay .l) → formOf (lay .l) t .number ≡ 0 → formOf (lay .l) u .number ≡ 0
+    → replayOf sheet state memory (t ++ u) ≡ goesOn (replayOf sheet state memory t) (λ s n. further m (replayOf sheet s n u))
 
 -- two replays on the memories m₁ and m₂: the same is told, the state left is the same, and the memories differ nowhere that they did not differ before
 pub record Alike (m₁ m₂ : List ℕ) (r₁ r₂ : Replayed) : Type 0 where
