@@ -32,29 +32,25 @@ use Rattle.demands.proofs.Playing.{replay-plays, again}
 abbrev Joined : ℕ → Told → Told → Type 0
 Joined p x y = (y .number ≡ 0 → x .number ≡ 0) × ((y .number ≡ 0 → ⊥) → x ≡ says (y .number) (p + y .place))
 
+-- the form from a place on: behind the last octet, behind a whole record, and where no fault is told
 form-end : (l : ℕ) (s : List ℕ) (k n : ℕ) → length s ≤ k * recordSize l → formFrom l s k n ≡ says 0 0
 unfolding formFrom formed recordAt
 form-end l s k zero h = refl
 form-end l s k (suc n) h = ap (λ (r : Record). formed r (k * recordSize l) (formFrom l s (suc k) n)) (pick-le _ _ h)
 
--- a form that tells no fault goes on behind a record that is there, and the record is whole
-form-on : (l : ℕ) (s : List ℕ) (k n : ℕ) → k * recordSize l < length s → formFrom l s k (suc n) .number ≡ 0
-    → (faultOf l (drop (k * recordSize l) s) ≡ 0) × (formFrom l s (suc k) n .number ≡ 0)
-unfolding formFrom formed recordAt
-form-on l s k n h z =
-    let f = faultOf l (drop (k * recordSize l) s) in
-    let next = formFrom l s (suc k) n in
-    let there = pick-gt _ _ h in
-    ⊎-elim
-    (λ (e : f ≡ 0).
-    (e, sym (ap (λ (r : Record). formed r (k * recordSize l) next .number) (there ∙ pick-eq _ _ e)) ∙ z))
-    (λ (e : f ≡ 0 → ⊥). absurd (e (sym (ap (λ (r : Record). formed r (k * recordSize l) next .number) (there ∙ pick-ne _ _ e)) ∙ z)))
-    (eq-or-ne f 0)
+module _ (l : ℕ) (s : List ℕ) (k n : ℕ) (h : k * recordSize l < length s) where
+  form-on : faultOf l (drop (k * recordSize l) s) ≡ 0 → formFrom l s k (suc n) ≡ formFrom l s (suc k) n
+  unfolding formFrom formed recordAt
+  form-on e = ap (λ (r : Record). formed r (k * recordSize l) (formFrom l s (suc k) n)) (pick-gt _ _ h ∙ pick-eq _ _ e)
 
-form-step : (l : ℕ) (s : List ℕ) (k n : ℕ) → k * recordSize l < length s → faultOf l (drop (k * recordSize l) s) ≡ 0
-    → formFrom l s k (suc n) ≡ formFrom l s (suc k) n
-unfolding formFrom formed recordAt
-form-step l s k n h e = ap (λ (r : Record). formed r (k * recordSize l) (formFrom l s (suc k) n)) (pick-gt _ _ h ∙ pick-eq _ _ e)
+  form-first : formFrom l s k (suc n) .number ≡ 0 → faultOf l (drop (k * recordSize l) s) ≡ 0
+  unfolding formFrom formed recordAt
+  form-first z =
+      ⊎-elim (λ e. e)
+      (λ e.
+      let bad = ap (λ (r : Record). formed r (k * recordSize l) (formFrom l s (suc k) n) .number) (pick-gt _ _ h ∙ pick-ne _ _ e) in
+      absurd (e (sym bad ∙ z)))
+      (eq-or-ne (faultOf l (drop (k * recordSize l) s)) 0)
 
 -- a whole record stays whole before further octets
 still-whole : (l : ℕ) (s u : List ℕ) → 0 < length s → faultOf l s ≡ 0 → faultOf l (s ++ u) ≡ 0
@@ -116,6 +112,7 @@ module _ (l m : ℕ) (t u : List ℕ) (e : length t ≡ m * recordSize l) where
       subst₂ (λ (r : Record) (place : ℕ). Joined (m * recordSize l) (formed r place (formFrom l (t ++ u) (suc (k + m)) n)) (formFrom l u k (suc i)))
       (sym same) (sym at) (joined-formed (m * recordSize l) (k * recordSize l) (recordAt l u (k * recordSize l)) _ _ next)
 
+  -- a record of t that has j others of t behind it begins in t
   inside : (j k : ℕ) → k + suc j ≡ m → k * recordSize l < length t
   inside j k c =
       let q = add-mul k (suc j) (recordSize l) in
@@ -145,15 +142,16 @@ module _ (l m : ℕ) (t u : List ℕ) (e : length t ≡ m * recordSize l) where
       let s = suc-mul k (recordSize l) in
       let b = inside j k c in
       let d = length-drop (k * recordSize l) t in
-      let on = form-on l t k i b z in
+      let first = form-first l t k i b z in
       let whole : faultOf l (drop (k * recordSize l) (t ++ u)) ≡ 0 =
-      ap (faultOf l) (drop-append-le (k * recordSize l) t u (omega arith)) ∙ still-whole l (drop (k * recordSize l) t) u (omega arith) (on .0) in
-      subst (λ (x : Told). Joined (m * recordSize l) x (formOf l u)) (sym (form-step l (t ++ u) k n (omega arith) whole))
-      (before j (suc k) n i (omega arith) (omega arith) (omega arith) (on .1))
+      ap (faultOf l) (drop-append-le (k * recordSize l) t u (omega arith)) ∙ still-whole l (drop (k * recordSize l) t) u (omega arith) first in
+      subst (λ (x : Told). Joined (m * recordSize l) x (formOf l u)) (sym (form-on l (t ++ u) k n (omega arith) whole))
+      (before j (suc k) n i (omega arith) (omega arith) (omega arith) (ap (λ (x : Told). x .number) (sym (form-on l t k i b first)) ∙ z))
 
 pub forms-join : FormsJoin
 forms-join l m t u e z = before l m t u e m 0 (suc (length (t ++ u))) (suc (length t)) (omega arith) (omega arith) (omega arith) z
 
+-- what is told further of each of two is told further of the chosen one
 further-both : (m : ℕ) (b : Bool) {x y : Replayed} (v w : Replayed) → x ≡ further m v → y ≡ further m w → pick b x y ≡ further m (pick b v w)
 unfolding pick
 further-both m true v w p q = p
@@ -197,7 +195,8 @@ module _ (sheet : List ℕ) (lay : Layout) where
       (behind-records n (drop (recordSize (lay .l)) rest) (omega arith) (suc k) _ _ next)
 
   behind-trace : (trace state memory : List ℕ) → Startable state memory
-      → Startable (playOf sheet (lay .l) 0 state memory (tracedOf (lay .l) trace) .state) (playOf sheet (lay .l) 0 state memory (tracedOf (lay .l) trace) .memory)
+      → Startable (playOf sheet (lay .l) 0 state memory (tracedOf (lay .l) trace) .state)
+      (playOf sheet (lay .l) 0 state memory (tracedOf (lay .l) trace) .memory)
   behind-trace trace state memory p =
       behind-records (length trace / recordSize (lay .l)) trace (div-mul-le-self (length trace) (recordSize (lay .l))) 0 state memory p
 

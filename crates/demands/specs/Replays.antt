@@ -131,7 +131,7 @@ pub record CutInTwo : Type 0 where
       → playOf sheet l k state memory (tracedOf l (t ++ u))
       ≡ goesOn (playOf sheet l k state memory (tracedOf l t)) (λ s n. playOf sheet l (k + m) s n (tracedOf l u))
 
--- the form of a trace behind m whole records: what is behind has a fault where the whole has one, at the same octet, which stands behind theirs
+-- the form of a trace that begins with m whole records is that of what stands behind them, and a fault's place is theirs further
 abbrev pub FormsJoin : Type 0
 FormsJoin =
     (l m : ℕ) (t u : List ℕ) → length t ≡ m * recordSize l → formOf l t .number ≡ 0
@@ -142,7 +142,8 @@ FormsJoin =
 abbrev pub further : ℕ → Replayed → Replayed
 further m r = replayed (says (r .answer .number) (r .answer .place + pick (eqb (r .answer .number) 0) m (64 * m))) (r .state) (r .memory)
 
--- the whole replay cut in two: that of t and u is that of u from where t's ended, told with the m records of t before it; where t's told 34, it is t's
+-- the whole replay cut in two: where that of the first part t told 0, that of both is that of u from where t's ended, told m records further; where it
+-- told 34, that of both is t's
 abbrev pub ReplayCutInTwo : Type 0
 ReplayCutInTwo =
     (sheet state memory t u : List ℕ) (lay : Layout) (st : LinkState) (m : ℕ) → Playable sheet state memory lay st
