@@ -37,6 +37,13 @@ static const struct group groups[] = {
     { "refusals: null pointers of length 0", refusal_empty },
     { "state: every octet changed", state_octets },
     { "commands: every octet changed", command_octets },
+    { "replay: a recorded trace agrees", replay_agrees },
+    { "replay: every octet of the replies changed", replay_replies },
+    { "replay: every octet of the commands changed", replay_commands },
+    { "replay: cut at every length", replay_cuts },
+    { "replay: every kind", replay_kinds },
+    { "replay: refusals in order", replay_refusals },
+    { "replay: the longest trace, and longer", replay_longest },
     { "random calls beside the model", random_calls },
     { "each number met at each call that has it", all_numbers_met }
 };

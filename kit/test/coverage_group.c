@@ -4,17 +4,18 @@
 void all_numbers_met(void)
 {
     static const unsigned numbers[] = {
-        0, 1, 2, 3, 4, 5, 6, 11, 12, 13, 14, 15, 16, 17
+        0, 1, 2, 3, 4, 5, 6, 11, 12, 13, 14, 15, 16, 17, 31, 32, 33, 34, 35
     };
-    /* By call: sheet, lengths (which answers lengths), reset, enable, exchange. */
+    /* By call: sheet, lengths (which answers lengths), reset, enable,
+     * exchange, replay. */
     static const char *const can[] = {
-        "x......xxxxxxx", "..............", "xx.....xxxxxxx",
-        "xx....xxxxxxxx", "xxxxxx.xxxxxxx"
+        "x......xxxxxxx.....", "...................", "xx.....xxxxxxx.....",
+        "xx....xxxxxxxx.....", "xxxxxx.xxxxxxx.....", "xxx..x.xxxxxxxxxxxx"
     };
     int which, i;
 
-    for (which = ASK_SHEET; which <= ASK_EXCHANGE; which++)
-        for (i = 0; i < 14 && which != ASK_LENGTHS; i++) {
+    for (which = ASK_SHEET; which <= ASK_REPLAY; which++)
+        for (i = 0; i < 19 && which != ASK_LENGTHS; i++) {
             label("number", (long)numbers[i]);
             check((met((enum which)which, numbers[i]) > 0)
                   == (can[which][i] == 'x'), "met where it should not, or not");

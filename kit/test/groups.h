@@ -19,6 +19,13 @@ void accident_other_l(void);
 void bench_cases(void);
 void bench_program(void);
 void command_octets(void);
+void replay_agrees(void);
+void replay_replies(void);
+void replay_commands(void);
+void replay_cuts(void);
+void replay_kinds(void);
+void replay_refusals(void);
+void replay_longest(void);
 void random_calls(void);
 void all_numbers_met(void);
 

@@ -4,7 +4,7 @@
 #include <string.h>
 
 static const unsigned numbers[] = {
-    0, 1, 2, 3, 4, 5, 6, 11, 12, 13, 14, 15, 16, 17
+    0, 1, 2, 3, 4, 5, 6, 11, 12, 13, 14, 15, 16, 17, 31, 32, 33, 34, 35
 };
 
 /* Literal octets stand here on purpose: a slip in the header must show. */
@@ -19,7 +19,10 @@ void header_constants(void)
         { T24_NOT_DISABLED, 6 }, { T24_SHEET_CUT, 11 }, { T24_SHEET_KIND, 12 },
         { T24_SHEET_PLACE, 13 }, { T24_SHEET_RANGE, 14 },
         { T24_SHEET_ORDER, 15 }, { T24_SHEET_EXCESS, 16 },
-        { T24_SHEET_SPAN, 17 }, { T24_NOP, 0 }, { T24_PRM_RD, 1 },
+        { T24_SHEET_SPAN, 17 }, { T24_TRACE_KIND, 31 }, { T24_TRACE_L, 32 },
+        { T24_TRACE_CUT, 33 }, { T24_TRACE_DIFFERS, 34 },
+        { T24_TRACE_LONG, 35 }, { T24_TRACE_MAX, 0x3FFFFFFF },
+        { T24_TRACE_8, 0x21 }, { T24_NOP, 0 }, { T24_PRM_RD, 1 },
         { T24_PRM_WR, 2 }, { T24_ID_RD, 3 }, { T24_ALM_RD, 5 },
         { T24_ALM_CLR, 6 }, { T24_SYNC_SET, 0x0D }, { T24_CONNECT, 0x0E },
         { T24_DISCONNECT, 0x0F }, { T24_MEM_RD, 0x1D }, { T24_MEM_WR, 0x1E },
@@ -56,6 +59,8 @@ static void answers_taken_apart(void)
     check(t24_place(answer) == 0xFEDCBA98u, "place of an answer");
     check(t24_l(answer) == 0x76543210u, "L of lengths");
     check(t24_memory(answer) == 0xFEDCBA98u, "memory of lengths");
+    check(t24_trace_record(answer) == 0x3FB72EAu, "record of an answer");
+    check(t24_trace_octet(answer) == 0x18, "octet of an answer");
     check(t24_reply_alarm(reply) == 9, "alarm of a reply");
     check(t24_reply_communication_alarm(reply) == 12, "latch of a reply");
 }

@@ -16,12 +16,12 @@ static struct {
 } lent[ROLES];
 
 static long calls, failures;
-static long answers[ASK_EXCHANGE + 1][18];
+static long answers[ASK_REPLAY + 1][NUMBERS];
 static const char *group_name = "", *label_text = "";
 static long label_number;
 
 static const char *const role_name[ROLES] = {
-    "sheet", "state", "memory", "command", "reply"
+    "sheet", "state", "memory", "command", "reply", "trace"
 };
 
 void lend_open(void)
@@ -94,6 +94,11 @@ static uint64_t ask(enum which which)
     case ASK_ENABLE:
         return t24_enable(lent[SHEET].at, lent[SHEET].len,
                           lent[STATE].at, lent[STATE].len);
+    case ASK_REPLAY:
+        return t24_replay(lent[SHEET].at, lent[SHEET].len,
+                          lent[STATE].at, lent[STATE].len,
+                          lent[MEMORY].at, lent[MEMORY].len,
+                          lent[TRACE].at, lent[TRACE].len);
     default:
         return t24_exchange(lent[SHEET].at, lent[SHEET].len,
                             lent[STATE].at, lent[STATE].len,
@@ -101,6 +106,12 @@ static uint64_t ask(enum which which)
                             lent[COMMAND].at, lent[COMMAND].len,
                             lent[REPLY].at, lent[REPLY].len);
     }
+}
+
+void count_answer(enum which which, uint64_t answer)
+{
+    if (t24_number(answer) < NUMBERS)
+        answers[which][t24_number(answer)]++;
 }
 
 static int call_and_compare(enum which which, uint64_t answer, int back,
@@ -117,8 +128,7 @@ static int call_and_compare(enum which which, uint64_t answer, int back,
     if (locked)
         place_lock(0);
     calls++;
-    if (t24_number(got) < 18)
-        answers[which][t24_number(got)]++;
+    count_answer(which, got);
     if (got != answer) {
         if (failures < REPORTS_SHOWN)
             fprintf(stderr, "  answer number %lu place %lu, wanted %lu %lu\n",
@@ -150,7 +160,8 @@ uint64_t ask_model(enum which which)
                      lent[STATE].wanted, lent[STATE].len,
                      lent[MEMORY].wanted, lent[MEMORY].len,
                      lent[COMMAND].given, lent[COMMAND].len,
-                     lent[REPLY].wanted, lent[REPLY].len);
+                     lent[REPLY].wanted, lent[REPLY].len,
+                     lent[TRACE].given, lent[TRACE].len);
 }
 
 int expect_model(enum which which)

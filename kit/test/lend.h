@@ -6,8 +6,12 @@
 
 #define LENT_MAX (1024u * 1024u) /* the longest buffer a test really lends */
 
-enum role { SHEET, STATE, MEMORY, COMMAND, REPLY, ROLES };
-enum which { ASK_SHEET, ASK_LENGTHS, ASK_RESET, ASK_ENABLE, ASK_EXCHANGE };
+#define NUMBERS 36               /* numbers are below this */
+
+enum role { SHEET, STATE, MEMORY, COMMAND, REPLY, TRACE, ROLES };
+enum which {
+    ASK_SHEET, ASK_LENGTHS, ASK_RESET, ASK_ENABLE, ASK_EXCHANGE, ASK_REPLAY
+};
 
 /* Gets the places ready; to be called once before anything else. */
 void lend_open(void);
@@ -38,7 +42,10 @@ int expect_on_side(enum which which, uint64_t answer, int back);
 int expect_model(enum which which);
 uint64_t ask_model(enum which which);
 
-/* How often a call has answered a number from 0 to 17 so far. */
+/* Counts an answer, for calls that are not made by expect. */
+void count_answer(enum which which, uint64_t answer);
+
+/* How often a call has answered a number so far. */
 long met(enum which which, unsigned number);
 
 /* Counts and reports a condition that is no call. */

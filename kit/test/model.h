@@ -44,11 +44,16 @@ int model_state_valid(const struct plan *plan, const uint8_t *state,
 void model_exchange(const struct plan *plan, uint8_t *state, uint8_t *memory,
                     const uint8_t *command, uint8_t *reply);
 
-/* Any of the five calls, acting on the buffers as the library should. */
+/* The replay of a trace, after the refusals it shares with the exchange. */
+uint64_t model_replay(const struct plan *plan, uint8_t *state, uint8_t *memory,
+                      const uint8_t *trace, size_t len);
+
+/* Any of the calls, acting on the buffers as the library should. */
 uint64_t model_ask(enum which which, const uint8_t *sheet, size_t sheet_len,
                    uint8_t *state, size_t state_len,
                    uint8_t *memory, size_t memory_len,
                    const uint8_t *command, size_t command_len,
-                   uint8_t *reply, size_t reply_len);
+                   uint8_t *reply, size_t reply_len,
+                   const uint8_t *trace, size_t trace_len);
 
 #endif

@@ -52,7 +52,8 @@ uint64_t model_ask(enum which which, const uint8_t *sheet, size_t sheet_len,
                    uint8_t *state, size_t state_len,
                    uint8_t *memory, size_t memory_len,
                    const uint8_t *command, size_t command_len,
-                   uint8_t *reply, size_t reply_len)
+                   uint8_t *reply, size_t reply_len,
+                   const uint8_t *trace, size_t trace_len)
 {
     struct plan plan;
     const uint64_t verdict = model_sheet(sheet, sheet_len, &plan);
@@ -69,9 +70,11 @@ uint64_t model_ask(enum which which, const uint8_t *sheet, size_t sheet_len,
         return T24_BAD_STATE;
     if (memory_len != plan.memory)
         return T24_BAD_MEMORY;
-    if (command_len != plan.l)
+    if (which == ASK_REPLAY && state[1] != 0)
+        return model_replay(&plan, state, memory, trace, trace_len);
+    if (which != ASK_REPLAY && command_len != plan.l)
         return T24_BAD_COMMAND;
-    if (reply_len != plan.l)
+    if (which != ASK_REPLAY && reply_len != plan.l)
         return T24_BAD_REPLY;
     if (state[1] == 0)
         return T24_IS_DISABLED;

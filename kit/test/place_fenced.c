@@ -97,6 +97,7 @@ void place_lock(int locked)
     const int protection = locked ? PROT_READ : PROT_READ | PROT_WRITE;
 
     if (mprotect(places[SHEET].room, room_len, protection) != 0
-        || mprotect(places[COMMAND].room, room_len, protection) != 0)
+        || mprotect(places[COMMAND].room, room_len, protection) != 0
+        || mprotect(places[TRACE].room, room_len, protection) != 0)
         exit(3);
 }

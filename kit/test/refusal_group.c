@@ -1,61 +1,9 @@
 /* Refusals 1 to 6: mixtures of wrong things answer the first in the order. */
 #include "groups.h"
 #include "sheets.h"
+#include "variants.h"
 
 #include <string.h>
-
-/* Wrong lengths near the right one; index 0 is right. */
-static size_t off(size_t right, int variant)
-{
-    switch (variant) {
-    case 0: return right;
-    case 1: return 0;
-    case 2: return right - 1;
-    default: return right + 1;
-    }
-}
-
-/* One sheet for each fault 11 to 17, index 0 is good. */
-static uint64_t give_sheet(unsigned l, int variant)
-{
-    static const uint8_t place[] = { 0, 32, 32, 33, 0, 14, 4, 24 };
-    struct built sheet;
-
-    build_p(&sheet, l);
-    switch (variant) {
-    case 1: sheet.octets[32] = T24_RECORD_ID; break;
-    case 2: sheet.octets[32] = 5; break;
-    case 3: add_octet(&sheet, 0); break;
-    case 4: sheet.octets[1] = 7; break;
-    case 5: sheet.octets[15] = 0x03; break;
-    case 6: sheet.octets[11] = 1; break;
-    case 7: sheet.octets[31] = 7; break;
-    default: break;
-    }
-    give(SHEET, sheet.octets, sheet.len);
-    if (variant == 0)
-        return T24_DONE;
-    return 10u + (unsigned)variant + ((uint64_t)place[variant] << 32);
-}
-
-enum { STATE_VARIANTS = 7 };
-
-/* Index 0 is good; then wrong lengths, and wrong contents of right length. */
-static void give_state(unsigned l, unsigned link, int variant)
-{
-    uint8_t state[T24_STATE_LEN + 1] = { T24_STATE_KIND };
-
-    state[T24_AT_LINK] = (uint8_t)link;
-    state[T24_AT_L] = (uint8_t)l;
-    state[T24_AT_COM_TIME] = link >= T24_LINK_ASYNC;
-    if (variant == 4)
-        state[T24_AT_KIND] = 0x12;
-    if (variant == 5)
-        state[T24_AT_L] = (uint8_t)(l == 16 ? 32 : 16);
-    if (variant == 6)
-        state[T24_AT_COMMUNICATION_ALARM] = 8;
-    give(STATE, state, off(T24_STATE_LEN, variant > 3 ? 0 : variant));
-}
 
 static void mixture_of_exchange(unsigned l, uint64_t sheet_answer, int state,
                                 int memory, int command, int reply,
@@ -66,9 +14,9 @@ static void mixture_of_exchange(unsigned l, uint64_t sheet_answer, int state,
     if (left_out())
         return;
     give_state(l, link, state);
-    give_noise(MEMORY, off(8, memory));
-    give_noise(COMMAND, off(l, command));
-    give_noise(REPLY, off(l, reply));
+    give_noise(MEMORY, near_length(8, memory));
+    give_noise(COMMAND, near_length(l, command));
+    give_noise(REPLY, near_length(l, reply));
     if (sheet_answer != T24_DONE)
         answer = sheet_answer;
     else if (state != 0)
@@ -157,6 +105,8 @@ static void lengths_of(enum role role, size_t right, unsigned number)
         label("length", (long)len);
         give_noise(role, len);
         expect(ASK_EXCHANGE, number);
+        if (role == STATE || role == MEMORY)
+            expect(ASK_REPLAY, number);
         if (role == STATE) {
             expect(ASK_ENABLE, number);
             expect(ASK_RESET, number);
@@ -192,6 +142,8 @@ static void big(enum role role, size_t right, unsigned number)
     expect(ASK_EXCHANGE, number);
     give_noise(role, LENT_MAX);
     expect(ASK_EXCHANGE, number);
+    if (role != COMMAND && role != REPLY)
+        expect(ASK_REPLAY, number);
     if (role == STATE || role == SHEET) {
         expect(ASK_ENABLE, number);
         expect(ASK_RESET, number);

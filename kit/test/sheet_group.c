@@ -21,6 +21,7 @@ static void refused(const char *name, const struct built *sheet,
     expect(ASK_RESET, answer);
     expect(ASK_ENABLE, answer);
     expect(ASK_EXCHANGE, answer);
+    expect(ASK_REPLAY, answer);
 }
 
 static void start(struct built *sheet)

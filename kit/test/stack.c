@@ -16,6 +16,8 @@ static ucontext_t here, there;
 static struct built sheet;
 static uint8_t state[T24_STATE_LEN], memory[T24_MEMORY_MAX];
 static uint8_t command[T24_L_MAX], reply[T24_L_MAX];
+static uint8_t trace[16 * (1 + 2 * T24_L_MAX)];
+static size_t trace_len;
 
 static uint64_t one_exchange(unsigned code)
 {
@@ -37,23 +39,40 @@ static uint64_t one_exchange(unsigned code)
                         sizeof reply) + t24_reply_alarm(reply);
 }
 
+/* The exchange just made becomes the trace's next record. */
+static void keep_record(void)
+{
+    trace[trace_len] = T24_TRACE_8 + 4;
+    memcpy(trace + trace_len + 1, command, sizeof command);
+    memcpy(trace + trace_len + 1 + sizeof command, reply, sizeof reply);
+    trace_len += 1 + 2 * T24_L_MAX;
+}
+
 static uint64_t sum;
 
-/* All five calls and every kind of command; runs on the painted stack. */
+/* All calls and every kind of command; runs on the painted stack. */
 static void everything(void)
 {
     static const uint8_t codes[] = {
         T24_CONNECT, T24_NOP, T24_PRM_WR, T24_ID_RD, T24_ALM_RD, T24_ALM_CLR,
         T24_MEM_RD, T24_MEM_WR, T24_SYNC_SET, T24_DISCONNECT
     };
+    uint8_t start[T24_STATE_LEN];
     size_t i;
 
     sum = t24_sheet(sheet.octets, sheet.len);
     sum += t24_lengths(sheet.octets, sheet.len) == 0;
     sum += t24_reset(sheet.octets, sheet.len, state, sizeof state);
     sum += t24_enable(sheet.octets, sheet.len, state, sizeof state);
-    for (i = 0; i < sizeof codes; i++)
+    memcpy(start, state, sizeof start);
+    for (i = 0; i < sizeof codes; i++) {
         sum += one_exchange(codes[i]);
+        keep_record();
+    }
+    /* The writes wrote zeros over zeros, so the memory is as at the start. */
+    sum += t24_replay(sheet.octets, sheet.len, start, sizeof start, memory,
+                      sizeof memory, trace, trace_len)
+           != (uint64_t)sizeof codes << 32;
 }
 
 /* Runs everything on the painted stack and counts what lost its paint. */

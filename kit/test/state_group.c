@@ -105,6 +105,12 @@ void refusal_empty(void)
           == T24_BAD_COMMAND, "null command");
     check(t24_exchange(bare, 5, state, 10, NULL, 0, command, 16, NULL, 0)
           == T24_BAD_REPLY, "null reply");
+    check(t24_replay(NULL, 0, NULL, 0, NULL, 0, NULL, 0) == T24_SHEET_CUT,
+          "all null");
+    check(t24_replay(bare, 5, NULL, 0, NULL, 0, NULL, 0) == T24_BAD_STATE,
+          "null state");
+    check(t24_replay(bare, 5, state, 10, NULL, 0, NULL, 0) == T24_DONE,
+          "null memory and trace of length 0");
     check(memcmp(state, state_a, sizeof state) == 0, "state changed");
     check(t24_exchange(bare, 5, state, 10, NULL, 0, command, 16, reply, 16)
           == T24_DONE, "null memory of length 0");
