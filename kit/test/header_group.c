@@ -8,40 +8,41 @@ static const unsigned numbers[] = {
 };
 
 /* Literal octets stand here on purpose: a slip in the header must show. */
+static const unsigned pair[][2] = {
+    { T24_L8, 8 }, { T24_L16, 16 }, { T24_L32, 32 }, { T24_L48, 48 },
+    { T24_L64, 64 }, { T24_L_MAX, 64 }, { T24_STATE_LEN, 10 },
+    { T24_SHEET_MAX, 2048 }, { T24_MEMORY_MAX, 65536 },
+    { T24_DONE, 0 }, { T24_BAD_STATE, 1 }, { T24_BAD_MEMORY, 2 },
+    { T24_BAD_COMMAND, 3 }, { T24_BAD_REPLY, 4 }, { T24_IS_DISABLED, 5 },
+    { T24_NOT_DISABLED, 6 }, { T24_SHEET_CUT, 11 }, { T24_SHEET_KIND, 12 },
+    { T24_SHEET_PLACE, 13 }, { T24_SHEET_RANGE, 14 },
+    { T24_SHEET_ORDER, 15 }, { T24_SHEET_EXCESS, 16 },
+    { T24_SHEET_SPAN, 17 }, { T24_TRACE_KIND, 31 }, { T24_TRACE_L, 32 },
+    { T24_TRACE_CUT, 33 }, { T24_TRACE_DIFFERS, 34 },
+    { T24_TRACE_LONG, 35 }, { T24_TRACE_MAX, 0x3FFFFFFF },
+    { T24_TRACE_8, 0x21 }, { T24_NOP, 0 }, { T24_PRM_RD, 1 },
+    { T24_PRM_WR, 2 }, { T24_ID_RD, 3 }, { T24_ALM_RD, 5 },
+    { T24_ALM_CLR, 6 }, { T24_SYNC_SET, 0x0D }, { T24_CONNECT, 0x0E },
+    { T24_DISCONNECT, 0x0F }, { T24_MEM_RD, 0x1D }, { T24_MEM_WR, 0x1E },
+    { T24_ALARM_NONE, 0 }, { T24_ALARM_CODE, 8 }, { T24_ALARM_DATA, 9 },
+    { T24_ALARM_RIGHTS, 10 }, { T24_ALARM_LINK, 12 },
+    { T24_ALARM_COMMUNICATION, 12 }, { T24_LINK_DISABLED, 0 },
+    { T24_LINK_DISCONNECTED, 1 }, { T24_LINK_ASYNC, 2 },
+    { T24_LINK_SYNC, 3 }, { T24_STATE_KIND, 0x11 }, { T24_AT_KIND, 0 },
+    { T24_AT_LINK, 1 }, { T24_AT_L, 2 }, { T24_AT_DUAL, 3 },
+    { T24_AT_COM_TIME, 4 }, { T24_AT_MN_KNOWN, 5 }, { T24_AT_LAST_MN, 6 },
+    { T24_AT_RSN, 7 }, { T24_AT_COMMAND_ALARM, 8 },
+    { T24_AT_COMMUNICATION_ALARM, 9 }, { T24_RECORD_END, 0 },
+    { T24_RECORD_LINK, 1 }, { T24_RECORD_REGION, 2 },
+    { T24_RECORD_PARAMETER, 3 }, { T24_RECORD_ID, 4 },
+    { T24_RIGHT_READ, 1 }, { T24_RIGHT_WRITE_ASYNC, 2 },
+    { T24_RIGHT_WRITE_SYNC, 4 }, { T24_COM_SYNC, 2 }, { T24_COM_DUAL, 4 },
+    { T24_ELEMENT_1, 0x11 }, { T24_ELEMENT_2, 0x21 },
+    { T24_ELEMENT_4, 0x31 }
+};
+
 void header_constants(void)
 {
-    static const unsigned pair[][2] = {
-        { T24_L8, 8 }, { T24_L16, 16 }, { T24_L32, 32 }, { T24_L48, 48 },
-        { T24_L64, 64 }, { T24_L_MAX, 64 }, { T24_STATE_LEN, 10 },
-        { T24_SHEET_MAX, 2048 }, { T24_MEMORY_MAX, 65536 },
-        { T24_DONE, 0 }, { T24_BAD_STATE, 1 }, { T24_BAD_MEMORY, 2 },
-        { T24_BAD_COMMAND, 3 }, { T24_BAD_REPLY, 4 }, { T24_IS_DISABLED, 5 },
-        { T24_NOT_DISABLED, 6 }, { T24_SHEET_CUT, 11 }, { T24_SHEET_KIND, 12 },
-        { T24_SHEET_PLACE, 13 }, { T24_SHEET_RANGE, 14 },
-        { T24_SHEET_ORDER, 15 }, { T24_SHEET_EXCESS, 16 },
-        { T24_SHEET_SPAN, 17 }, { T24_TRACE_KIND, 31 }, { T24_TRACE_L, 32 },
-        { T24_TRACE_CUT, 33 }, { T24_TRACE_DIFFERS, 34 },
-        { T24_TRACE_LONG, 35 }, { T24_TRACE_MAX, 0x3FFFFFFF },
-        { T24_TRACE_8, 0x21 }, { T24_NOP, 0 }, { T24_PRM_RD, 1 },
-        { T24_PRM_WR, 2 }, { T24_ID_RD, 3 }, { T24_ALM_RD, 5 },
-        { T24_ALM_CLR, 6 }, { T24_SYNC_SET, 0x0D }, { T24_CONNECT, 0x0E },
-        { T24_DISCONNECT, 0x0F }, { T24_MEM_RD, 0x1D }, { T24_MEM_WR, 0x1E },
-        { T24_ALARM_NONE, 0 }, { T24_ALARM_CODE, 8 }, { T24_ALARM_DATA, 9 },
-        { T24_ALARM_RIGHTS, 10 }, { T24_ALARM_LINK, 12 },
-        { T24_ALARM_COMMUNICATION, 12 }, { T24_LINK_DISABLED, 0 },
-        { T24_LINK_DISCONNECTED, 1 }, { T24_LINK_ASYNC, 2 },
-        { T24_LINK_SYNC, 3 }, { T24_STATE_KIND, 0x11 }, { T24_AT_KIND, 0 },
-        { T24_AT_LINK, 1 }, { T24_AT_L, 2 }, { T24_AT_DUAL, 3 },
-        { T24_AT_COM_TIME, 4 }, { T24_AT_MN_KNOWN, 5 }, { T24_AT_LAST_MN, 6 },
-        { T24_AT_RSN, 7 }, { T24_AT_COMMAND_ALARM, 8 },
-        { T24_AT_COMMUNICATION_ALARM, 9 }, { T24_RECORD_END, 0 },
-        { T24_RECORD_LINK, 1 }, { T24_RECORD_REGION, 2 },
-        { T24_RECORD_PARAMETER, 3 }, { T24_RECORD_ID, 4 },
-        { T24_RIGHT_READ, 1 }, { T24_RIGHT_WRITE_ASYNC, 2 },
-        { T24_RIGHT_WRITE_SYNC, 4 }, { T24_COM_SYNC, 2 }, { T24_COM_DUAL, 4 },
-        { T24_ELEMENT_1, 0x11 }, { T24_ELEMENT_2, 0x21 },
-        { T24_ELEMENT_4, 0x31 }
-    };
     size_t i;
 
     for (i = 0; i < sizeof pair / sizeof pair[0]; i++) {

@@ -22,7 +22,6 @@ extern "C" {
         reply: *mut u8,
         reply_len: usize,
     ) -> u64;
-    #[cfg(feature = "replay")]
     fn t24_replay(
         sheet: *const u8,
         sheet_len: usize,
@@ -42,10 +41,7 @@ pub const T24: Engine = Engine {
     reset,
     enable,
     exchange,
-    #[cfg(feature = "replay")]
-    replay: Some(replay),
-    #[cfg(not(feature = "replay"))]
-    replay: None,
+    replay,
 };
 
 fn sheet(sheet: &[u8]) -> u64 {
@@ -87,7 +83,6 @@ fn exchange(
     }
 }
 
-#[cfg(feature = "replay")]
 fn replay(sheet: &[u8], state: &mut [u8], memory: &mut [u8], trace: &[u8]) -> u64 {
     unsafe {
         t24_replay(

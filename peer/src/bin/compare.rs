@@ -59,7 +59,7 @@ fn main() -> ExitCode {
         return ExitCode::FAILURE;
     }
     print!("{}", rig.tally);
-    for gap in rig.tally.gaps(rig.replays()) {
+    for gap in rig.tally.gaps() {
         println!("not reached: {gap}");
     }
     println!(

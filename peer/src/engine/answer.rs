@@ -36,6 +36,8 @@ pub const TRACE_LENGTH: u32 = 32;
 pub const TRACE_CUT: u32 = 33;
 /// A reply of the trace is not this machine's.
 pub const DIFFERENT: u32 = 34;
+/// A trace with more octets than places can tell.
+pub const TRACE_LONG: u32 = 35;
 
 /// A number and the place it speaks of.
 #[derive(Clone, Copy, Debug, PartialEq, Eq)]

@@ -64,8 +64,8 @@ pub fn exchange(
 /// Replays a trace of commands and replies (request 6 of document 02).
 ///
 /// All agree: 0 with the number of records. A difference: 34 with record
-/// number × 64 + the first differing octet of the reply, which fits the place
-/// up to 2^26 records; state and memory stand as before that record.
+/// number × 64 + the first differing octet of the reply; state and memory stand
+/// as before that record.
 pub fn replay(sheet: &[u8], state: &mut [u8], memory: &mut [u8], trace: &[u8]) -> u64 {
     match replay::replay(sheet, state, memory, trace) {
         Ok(answer) | Err(answer) => answer.packed(),

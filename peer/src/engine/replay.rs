@@ -10,6 +10,8 @@ const LENGTHS: [u8; 5] = [8, 16, 32, 48, 64];
 const FIRST_KIND: u8 = 0x21;
 /// Octets of a reply that a place can tell apart.
 const OCTETS: usize = 64;
+/// The longest trace; any octet of its records' replies has a place.
+const LONGEST: usize = (1 << 30) - 1;
 
 /// One command and the reply that the trace holds.
 struct Record<'a> {
@@ -72,6 +74,9 @@ pub fn replay(
     if current.link == Link::Disabled {
         return Err(refuse(answer::DISABLED));
     }
+    if too_long(trace.len()) {
+        return Err(refuse(answer::TRACE_LONG));
+    }
     check_form(trace, pdu_length)?;
     let mut reader = Reader {
         trace,
@@ -91,6 +96,10 @@ pub fn replay(
     Ok(refuse_at(0, records))
 }
 
+fn too_long(octets: usize) -> bool {
+    octets > LONGEST
+}
+
 /// The whole trace's form, before the first exchange.
 fn check_form(trace: &[u8], pdu_length: u8) -> Result<(), Answer> {
     let mut reader = Reader {
@@ -106,4 +115,16 @@ fn first_difference(ours: &[u8], theirs: &[u8]) -> Option<usize> {
     ours.iter()
         .zip(theirs)
         .position(|(our, their)| our != their)
+}
+
+#[cfg(test)]
+mod tests {
+    use super::{too_long, OCTETS};
+
+    #[test]
+    fn every_place_in_the_longest_trace_fits_an_answer() {
+        assert!(!too_long(0x3FFF_FFFF) && too_long(0x4000_0000));
+        let most_records = 0x3FFF_FFFF / (1 + 2 * 8);
+        assert!(u32::try_from(most_records * OCTETS).is_ok());
+    }
 }

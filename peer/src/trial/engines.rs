@@ -7,7 +7,7 @@ pub type Exchange = fn(&[u8], &mut [u8], &mut [u8], &[u8], &mut [u8]) -> u64;
 /// Sheet, state, memory and trace to an answer.
 pub type Replay = fn(&[u8], &mut [u8], &mut [u8], &[u8]) -> u64;
 
-/// The functions of an engine; `replay` may not exist yet.
+/// The functions of an engine.
 #[derive(Clone, Copy)]
 pub struct Engine {
     pub sheet: fn(&[u8]) -> u64,
@@ -15,7 +15,7 @@ pub struct Engine {
     pub reset: fn(&[u8], &mut [u8]) -> u64,
     pub enable: fn(&[u8], &mut [u8]) -> u64,
     pub exchange: Exchange,
-    pub replay: Option<Replay>,
+    pub replay: Replay,
 }
 
 /// The engine of this crate.
@@ -25,5 +25,5 @@ pub const PEER: Engine = Engine {
     reset: engine::reset,
     enable: engine::enable,
     exchange: engine::exchange,
-    replay: Some(engine::replay),
+    replay: engine::replay,
 };

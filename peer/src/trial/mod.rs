@@ -43,7 +43,7 @@ mod tests {
         let mut rig = Rig::new(PEER);
         let outcome = compare(&mut rig, 20_000, 24);
         assert!(outcome.is_ok());
-        assert_eq!(rig.tally.gaps(true), Vec::<String>::new());
+        assert_eq!(rig.tally.gaps(), Vec::<String>::new());
     }
 
     /// Forgets the latch when a cycle is lost with a latch set.

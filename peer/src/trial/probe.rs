@@ -67,10 +67,8 @@ pub fn judge_sheet_briefly(rig: &mut Rig, sheet: &[u8]) -> Outcome {
     rig.inputs.command = vec![0; usize::from(pdu_length)];
     rig.inputs.reply = vec![0xEE; usize::from(pdu_length)];
     rig.call(Call::Exchange)?;
-    if rig.replays() {
-        rig.inputs.trace.clear();
-        rig.call(Call::Replay)?;
-    }
+    rig.inputs.trace.clear();
+    rig.call(Call::Replay)?;
     Ok(())
 }
 

@@ -77,10 +77,7 @@ impl Side {
             Call::Reset => (self.engine.reset)(sheet, state),
             Call::Enable => (self.engine.enable)(sheet, state),
             Call::Exchange => (self.engine.exchange)(sheet, state, memory, command, reply),
-            Call::Replay => match self.engine.replay {
-                Some(replay) => replay(sheet, state, memory, self.trace.lend()),
-                None => 0,
-            },
+            Call::Replay => (self.engine.replay)(sheet, state, memory, self.trace.lend()),
         });
     }
 
@@ -132,11 +129,6 @@ impl Rig {
             progress: None,
             calling: Call::Sheet,
         }
-    }
-
-    /// Whether the other engine can replay traces.
-    pub fn replays(&self) -> bool {
-        self.theirs.engine.replay.is_some()
     }
 
     /// Runs both engines; on agreement state and memory are carried on.

@@ -22,7 +22,7 @@ pub fn run_sequence(rig: &mut Rig, seed: u64, sequence: u64) -> Outcome {
     rig.origin = format!("random: seed {seed}, sequence {sequence}, start");
     start_state(rig, &mut random, &plan)?;
     let mut recorder = Recorder::new(&rig.inputs.state, &rig.inputs.memory);
-    let recording = rig.replays() && random.chance(25);
+    let recording = random.chance(25);
     for step in 0..STEPS {
         rig.origin = format!("random: seed {seed}, sequence {sequence}, step {step}");
         if random.chance(4) {
@@ -89,11 +89,9 @@ fn disturb_disabled(rig: &mut Rig, random: &mut Random, plan: &Plan) -> Outcome 
         resize_one(rig, random);
     }
     rig.call(Call::Exchange)?;
-    if rig.replays() {
-        let length = random.index(3);
-        rig.inputs.trace = random.octets(length);
-        rig.call(Call::Replay)?;
-    }
+    let length = random.index(3);
+    rig.inputs.trace = random.octets(length);
+    rig.call(Call::Replay)?;
     Ok(())
 }
 

@@ -95,7 +95,7 @@ impl Tally {
     }
 
     /// What the rules can give but no call has given yet.
-    pub fn gaps(&self, with_replay: bool) -> Vec<String> {
+    pub fn gaps(&self) -> Vec<String> {
         let mut gaps = Vec::new();
         for (&code, name) in CODES.iter().zip(NAMES) {
             let of_code = &self.codes[usize::from(code)];
@@ -116,22 +116,25 @@ impl Tally {
         if self.crossings == 0 {
             gaps.push("memory command over two regions".to_string());
         }
-        gaps.extend(self.number_gaps(with_replay));
+        gaps.extend(self.number_gaps());
         gaps
     }
 
-    fn number_gaps(&self, with_replay: bool) -> Vec<String> {
+    fn number_gaps(&self) -> Vec<String> {
         let sheet = [0, 11, 12, 13, 14, 15, 16, 17];
         let mut wanted: Vec<(Call, u32)> = Vec::new();
-        for call in [Call::Sheet, Call::Reset, Call::Enable, Call::Exchange] {
+        for call in [
+            Call::Sheet,
+            Call::Reset,
+            Call::Enable,
+            Call::Exchange,
+            Call::Replay,
+        ] {
             wanted.extend(sheet.map(|number| (call, number)));
         }
         wanted.extend([(Call::Reset, 1), (Call::Enable, 1), (Call::Enable, 6)]);
         wanted.extend([1, 2, 3, 4, 5].map(|number| (Call::Exchange, number)));
-        if with_replay {
-            wanted.extend(sheet.map(|number| (Call::Replay, number)));
-            wanted.extend([1, 2, 5, 31, 32, 33, 34].map(|number| (Call::Replay, number)));
-        }
+        wanted.extend([1, 2, 5, 31, 32, 33, 34].map(|number| (Call::Replay, number)));
         wanted
             .into_iter()
             .filter(|&(call, number)| self.numbered(call, number) == 0)

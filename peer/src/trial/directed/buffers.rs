@@ -47,9 +47,6 @@ fn combinations(rig: &mut Rig, plan: &Plan) -> Outcome {
 }
 
 fn replay_with(rig: &mut Rig, state: &[u8], memory: usize) -> Outcome {
-    if !rig.replays() {
-        return Ok(());
-    }
     for trace in [&[][..], &[0x20], &[0x21], &[0x25]] {
         rig.inputs.state = state.to_vec();
         rig.inputs.memory = distinct_octets(memory);

@@ -11,7 +11,7 @@ mod traces;
 use super::probe::Outcome;
 use super::rig::Rig;
 
-/// All directed trials; those of traces only if the other engine replays.
+/// All directed trials.
 pub fn run(rig: &mut Rig) -> Outcome {
     buffers::run(rig)?;
     states::run(rig)?;
@@ -19,8 +19,5 @@ pub fn run(rig: &mut Rig) -> Outcome {
     data::run(rig)?;
     limits::run(rig)?;
     sheets::run(rig)?;
-    if rig.replays() {
-        traces::run(rig)?;
-    }
-    Ok(())
+    traces::run(rig)
 }

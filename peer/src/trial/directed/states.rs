@@ -23,10 +23,8 @@ fn judge_state(rig: &mut Rig, plan: &Plan, state: &[u8]) -> Outcome {
     rig.inputs.reply = vec![0xEE; length];
     rig.inputs.trace.clear();
     for call in [Call::Exchange, Call::Enable, Call::Reset, Call::Replay] {
-        if call != Call::Replay || rig.replays() {
-            rig.inputs.state = state.to_vec();
-            rig.call(call)?;
-        }
+        rig.inputs.state = state.to_vec();
+        rig.call(call)?;
     }
     Ok(())
 }
