@@ -4,6 +4,7 @@
 #![deny(warnings)]
 
 use peer::t24::T24;
+use peer::timing::replaying::{replayings, RECORDS};
 use peer::timing::scene::table_scenes;
 use peer::timing::search::worst;
 use peer::timing::stopwatch::{agree, measure, Times};
@@ -43,6 +44,28 @@ fn print_head() {
     println!("|---|---:|---:|---:|---:|");
 }
 
+/// Replays of long traces; false if the engines do not agree on one.
+fn print_replays(batches: usize) -> bool {
+    println!();
+    println!("### Replay");
+    println!();
+    println!("Median of calls with {RECORDS} records of L 64, one core; times in nanoseconds per record.");
+    println!();
+    println!("| trace | peer | t24 | t24 / peer | t24 records per second |");
+    println!("|---|---:|---:|---:|---:|");
+    for replaying in replayings() {
+        if !replaying.agree(&ENGINES) {
+            println!(
+                "measure: the engines differ in a replay, {}",
+                replaying.name
+            );
+            return false;
+        }
+        print_row(replaying.name, replaying.measure(&ENGINES, batches));
+    }
+    true
+}
+
 fn main() -> ExitCode {
     let batches = match std::env::args().nth(1).map(|argument| argument.parse()) {
         None => BATCHES,
@@ -74,5 +97,9 @@ fn main() -> ExitCode {
         }
     }
     print_range(&exchanges);
-    ExitCode::SUCCESS
+    if print_replays(batches) {
+        ExitCode::SUCCESS
+    } else {
+        ExitCode::FAILURE
+    }
 }

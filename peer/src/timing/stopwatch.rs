@@ -103,7 +103,8 @@ pub fn agree(engines: &[Engine; 2], scene: &Scene) -> bool {
     outcome(&engines[0]) == outcome(&engines[1])
 }
 
-fn median(mut times: Vec<f64>) -> f64 {
+/// The middle of the times.
+pub fn median(mut times: Vec<f64>) -> f64 {
     times.sort_by(f64::total_cmp);
     times[times.len() / 2]
 }

@@ -1,0 +1,106 @@
+//! Times of a replay: one call on a long trace that agrees.
+
+use super::scene::{plans, usual_exchanges, NamedPlan, PDU_LENGTH};
+use super::stopwatch::{median, Times};
+use crate::trial::build::{command, distinct_octets, follow};
+use crate::trial::engines::Engine;
+use crate::trial::recorder::Recorder;
+use crate::trial::states::{plain_state, ASYNC};
+use std::time::Instant;
+
+/// Records of a timed trace; the first half is out of step, the other in step.
+pub const RECORDS: usize = 10_000;
+
+const SYNC_SET: u8 = 0x0D;
+
+/// A trace with what it starts from.
+pub struct Replaying {
+    pub name: &'static str,
+    sheet: Vec<u8>,
+    recorded: Recorder,
+}
+
+/// What a replay answers and leaves behind.
+type Left = (u64, Vec<u8>, Vec<u8>);
+
+/// Traces on the typical and the largest sheet.
+pub fn replayings() -> Vec<Replaying> {
+    let plans = plans();
+    [&plans[1], &plans[3]].map(replaying).into()
+}
+
+/// The table's exchanges in turn, with a SYNC_SET in the middle.
+fn replaying(named: &NamedPlan) -> Replaying {
+    let sheet = named.plan.octets();
+    let state = plain_state(PDU_LENGTH, ASYNC);
+    let memory = distinct_octets(named.plan.memory_length());
+    let mut recorded = Recorder::new(&state, &memory);
+    let commands: Vec<Vec<u8>> = usual_exchanges(named, ASYNC)
+        .into_iter()
+        .filter_map(|scene| scene.exchange.map(|(_, command)| command))
+        .collect();
+    for record in 0..RECORDS {
+        let mut command = if record + 1 == RECORDS / 2 {
+            command(&named.plan, SYNC_SET)
+        } else {
+            commands[record % commands.len()].clone()
+        };
+        follow(&mut command, recorded.current_state());
+        recorded.record(&sheet, &command);
+    }
+    Replaying {
+        name: named.name,
+        sheet,
+        recorded,
+    }
+}
+
+impl Replaying {
+    /// One replay from the start, with its nanoseconds.
+    fn call(&self, engine: &Engine) -> (Left, f64) {
+        let (mut state, mut memory) = (self.recorded.state.clone(), self.recorded.memory.clone());
+        let start = Instant::now();
+        let answer = (engine.replay)(&self.sheet, &mut state, &mut memory, &self.recorded.trace);
+        let elapsed = start.elapsed().as_nanos() as f64;
+        ((answer, state, memory), elapsed)
+    }
+
+    /// Whether both engines agree with all records, and leave the same.
+    pub fn agree(&self, engines: &[Engine; 2]) -> bool {
+        let [one, other] = [0, 1].map(|side| self.call(&engines[side]).0);
+        one.0 == (RECORDS as u64) << 32 && one == other
+    }
+
+    /// Median nanoseconds per record of both engines, measured in turn.
+    pub fn measure(&self, engines: &[Engine; 2], batches: usize) -> Times {
+        let mut times = [Vec::new(), Vec::new()];
+        for _ in 0..batches {
+            for (engine, times) in engines.iter().zip(&mut times) {
+                times.push(self.call(engine).1 / RECORDS as f64);
+            }
+        }
+        times.map(median)
+    }
+}
+
+#[cfg(test)]
+mod tests {
+    use super::*;
+    use crate::trial::engines::PEER;
+    use crate::trial::states::{LINK_AT, SYNC};
+
+    #[test]
+    fn every_record_is_accepted_and_the_trace_agrees() {
+        let length = usize::from(PDU_LENGTH);
+        for replaying in replayings() {
+            let recorded = &replaying.recorded;
+            assert_eq!(recorded.records, RECORDS as u64);
+            assert_eq!(recorded.current_state()[LINK_AT], SYNC);
+            for record in recorded.trace.chunks(1 + 2 * length) {
+                assert_eq!(record[1 + length + 3], 0, "{}", replaying.name);
+            }
+            assert!(replaying.agree(&[PEER, PEER]));
+            assert!(replaying.measure(&[PEER, PEER], 1)[0] > 0.0);
+        }
+    }
+}
