@@ -1,6 +1,6 @@
 // The bench station: a slave on a sheet of a file and on commands of standard input. It starts with reset, enable and zero memory, and prints
 // each reply as one line of upper-case hex; a last piece shorter than L prints CUT; a refused sheet prints SHEET, number and place.
-mod printing; // printing.rt: lines of hex and of words
+pub mod printing; // printing.rt: lines of hex and of words
 
 use libc::STDIN_FILENO;
 use libc::STDOUT_FILENO;

@@ -30,9 +30,14 @@ fn digits(octets: &[u8], line: &mut [u8]) -> usize
     n
 }
 
-// One line of up to 64 octets; whether it was written.
-pub fn print_hex(octets: &[u8]) -> bool {
+// The digits of up to 64 octets; whether they were written.
+pub fn write_hex(octets: &[u8]) -> bool {
     let mut line = [0u8; 128];
     let n = digits(octets, &mut line);
-    io::write_all(STDOUT_FILENO, &line[..n]) & io::write_all(STDOUT_FILENO, b"\n")
+    io::write_all(STDOUT_FILENO, &line[..n])
+}
+
+// One line of up to 64 octets; whether it was written.
+pub fn print_hex(octets: &[u8]) -> bool {
+    write_hex(octets) & io::write_all(STDOUT_FILENO, b"\n")
 }

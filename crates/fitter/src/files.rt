@@ -1,0 +1,74 @@
+// Files by the program's arguments, or by default names where an argument is left out.
+use libc::STDOUT_FILENO;
+ghost use Rattle.io.specs.Counts.{Counts};
+
+// A line about a file.
+fn print_about(path: &[u8], what: &[u8]) {
+    io::write_all(STDOUT_FILENO, path);
+    io::write_all(STDOUT_FILENO, what);
+}
+
+// A line about the file of an argument.
+fn print_line(i: usize, name: &[u8], what: &[u8]) {
+    let mut path = io::buffer();
+    let n = os::arg(i, &mut path);
+    if os::errno() == 0 {
+        print_about(&path[..n], what);
+        return;
+    }
+    print_about(name, what);
+}
+
+// A file open for reading; one that is not gets its line, and the answer is negative.
+fn open_named(path: &[u8]) -> i32 {
+    let fd = os::open_read(path);
+    if fd >= 0 {
+        return fd;
+    }
+    if os::errno() == libc::ENOENT {
+        print_about(path, b": missing\n");
+        return fd;
+    }
+    print_about(path, b": cannot be opened\n");
+    fd
+}
+
+// The file of an argument, or of its default name.
+pub fn open(i: usize, name: &[u8]) -> i32 {
+    let mut path = io::buffer();
+    let n = os::arg(i, &mut path);
+    let error = os::errno();
+    if error == libc::EINVAL {
+        return open_named(name);
+    }
+    if error != 0 {
+        print_about(name, b": the name given for it is too long\n");
+        return -1;
+    }
+    open_named(&path[..n])
+}
+
+// Why a file gave no octet: a directory opens, and cannot be read.
+pub fn print_empty(fd: i32, i: usize, name: &[u8]) {
+    let mut one = [0u8; 1];
+    if libc::read(fd, &mut one) < 0 {
+        print_line(i, name, b": cannot be read\n");
+        return;
+    }
+    print_line(i, name, b": empty\n");
+}
+
+// A file whole in lent room that has one octet more than such a file may have; how many octets it has.
+pub fn read(fd: i32, i: usize, name: &[u8], room: &mut [u8]) -> usize
+    ensures { λ r. ⌜ Counts r (now (room .exit)) ⌝ }
+{
+    let n = io::read_full(fd, room);
+    if n == 0 {
+        print_empty(fd, i, name);
+    }
+    if n == room.len() {
+        print_line(i, name, b": too long\n");
+    }
+    libc::close(fd);
+    n
+}

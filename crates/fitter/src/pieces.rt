@@ -1,0 +1,229 @@
+// The two passes over the trace, by pieces of whole records: its form, then its exchanges.
+use crate::files;
+use crate::showing;
+use crate::words;
+use libc::STDERR_FILENO;
+use std::num::wrapping_add_u64;
+ghost use Prim.Native.Nat.{_≤_};
+
+// How far a pass is: whether the file may go on, and the octets or records behind it. No file is long enough for the count to wrap.
+struct Pass {
+    more: bool,
+    good: bool,
+    count: u64,
+}
+
+// The octets of a piece: as many whole records as a large buffer holds.
+fn piece_length(l: u8) -> usize
+    ensures { λ r. ⌜ r ≤ 65536 ⌝ }
+{
+    match l {
+        8 => 3855 * 17,
+        16 => 1985 * 33,
+        32 => 1008 * 65,
+        48 => 675 * 97,
+        _ => 508 * 129,
+    }
+}
+
+// A line on standard error for each 100,000 records, so that a long trace is seen to go on.
+fn print_progress(before: u64, after: u64) {
+    if before / 100000 == after / 100000 {
+        return;
+    }
+    io::print_decimal(STDERR_FILENO, after);
+    io::write_all(STDERR_FILENO, b" records agree so far\n");
+}
+
+// The form of the next piece in lent room.
+fn form_in(fd: i32, l: u8, piece: &mut [u8], before: u64) -> Pass {
+    let got = io::read_full(fd, piece);
+    if got == 0 {
+        return Pass {
+            more: false,
+            good: true,
+            count: before,
+        };
+    }
+    if 65536 < got {
+        return Pass {
+            more: false,
+            good: false,
+            count: before,
+        };
+    }
+    let told = replay::whole::form(&piece[..got], l);
+    if told.number != 0 {
+        words::print_refusal(told.number, wrapping_add_u64(before, told.place as u64));
+        return Pass {
+            more: false,
+            good: false,
+            count: before,
+        };
+    }
+    Pass {
+        more: true,
+        good: true,
+        count: wrapping_add_u64(before, got as u64),
+    }
+}
+
+// The form of the next piece.
+fn form_next(fd: i32, l: u8, before: u64) -> Pass {
+    let mut room = io::large_buffer();
+    let n = piece_length(l);
+    form_in(fd, l, &mut room[..n], before)
+}
+
+// Whether every record of the trace is whole; a proved loop has to end, so it counts down from a number that no run uses up.
+pub fn is_formed(fd: i32, l: u8) -> bool {
+    let mut pass = form_next(fd, l, 0);
+    if !pass.more && pass.good {
+        files::print_empty(fd, 4, b"trace.bin");
+    }
+    let mut turns = u64::MAX;
+    while turns > 0 && pass.more {
+        pass = form_next(fd, l, pass.count);
+        turns -= 1;
+    }
+    pass.good
+}
+
+// Where a record of a piece begins; the kinds are taken one by one, so that each product is by a number.
+fn record_start(k: usize, l: u8) -> usize
+    requires { ⌜ k ≤ 67108863 ⌝ }
+    ensures { λ r. ⌜ r ≤ 8657043327 ⌝ }
+{
+    match l {
+        8 => k * 17,
+        16 => k * 33,
+        32 => k * 65,
+        48 => k * 97,
+        _ => k * 129,
+    }
+}
+
+// The record of a piece that differs.
+fn print_record(
+    sheet: &[u8],
+    state: &mut [u8],
+    memory: &mut [u8],
+    piece: &[u8],
+    l: u8,
+    place: u32,
+    before: u64,
+) {
+    let k = (place / 64) as usize;
+    let octet = (place % 64) as usize;
+    let from = record_start(k, l) + 1;
+    let mid = from + l as usize;
+    let to = mid + l as usize;
+    if piece.len() < to {
+        return;
+    }
+    showing::print_difference(
+        sheet,
+        state,
+        memory,
+        &piece[from..mid],
+        &piece[mid..to],
+        wrapping_add_u64(before, k as u64),
+        octet,
+    );
+}
+
+// The exchanges of a piece.
+fn play_piece(
+    sheet: &[u8],
+    state: &mut [u8],
+    memory: &mut [u8],
+    piece: &[u8],
+    l: u8,
+    before: u64,
+) -> Pass {
+    let told = replay::playing::replay(sheet, state, memory, piece);
+    let after = wrapping_add_u64(before, told.place as u64);
+    if told.number == 0 {
+        print_progress(before, after);
+        return Pass {
+            more: true,
+            good: true,
+            count: after,
+        };
+    }
+    if told.number == replay::told::DIFFERS {
+        print_record(sheet, state, memory, piece, l, told.place, before);
+    } else {
+        words::print_refusal(told.number, told.place as u64);
+    }
+    Pass {
+        more: false,
+        good: false,
+        count: before,
+    }
+}
+
+// The exchanges of the next piece in lent room.
+fn play_in(
+    fd: i32,
+    sheet: &[u8],
+    state: &mut [u8],
+    memory: &mut [u8],
+    piece: &mut [u8],
+    l: u8,
+    before: u64,
+) -> Pass {
+    let got = io::read_full(fd, piece);
+    if got == 0 {
+        return Pass {
+            more: false,
+            good: true,
+            count: before,
+        };
+    }
+    play_piece(sheet, state, memory, &piece[..got], l, before)
+}
+
+// The exchanges of the next piece.
+fn play_next(
+    fd: i32,
+    sheet: &[u8],
+    state: &mut [u8],
+    memory: &mut [u8],
+    l: u8,
+    before: u64,
+) -> Pass {
+    let mut room = io::large_buffer();
+    let n = piece_length(l);
+    play_in(fd, sheet, state, memory, &mut room[..n], l, before)
+}
+
+// The exchanges of all pieces.
+fn play_all(fd: i32, sheet: &[u8], state: &mut [u8], memory: &mut [u8], l: u8) -> Pass {
+    let mut pass = Pass {
+        more: true,
+        good: true,
+        count: 0,
+    };
+    let mut turns = u64::MAX;
+    while turns > 0 && pass.more {
+        pass = play_next(fd, sheet, state, memory, l, pass.count);
+        turns -= 1;
+    }
+    pass
+}
+
+// The exchanges of the trace, whose file is opened once more, and what came of them.
+pub fn play(sheet: &[u8], state: &mut [u8], memory: &mut [u8], l: u8) {
+    let fd = files::open(4, b"trace.bin");
+    if fd < 0 {
+        return;
+    }
+    let pass = play_all(fd, sheet, state, memory, l);
+    libc::close(fd);
+    if pass.good {
+        words::print(b"all agree: ");
+        words::print_number(pass.count);
+        words::print(b" records\n");
+    }
+}

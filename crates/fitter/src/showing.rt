@@ -1,0 +1,65 @@
+// A difference: the record, its command, and the two replies with a mark below the first octet in which they differ.
+use crate::words;
+
+// The marker line, below the digits of the octet.
+fn print_mark(octet: usize) {
+    let spaces = [b' '; 128];
+    let n = 2 * (octet % 64);
+    words::print(b"       ");
+    words::print(&spaces[..n]);
+    words::print(b"^^\n");
+}
+
+// The replies one below the other.
+fn print_replies(ours: &[u8], reply: &[u8], octet: usize) {
+    words::print(b"ours:  ");
+    station::printing::print_hex(ours);
+    words::print(b"trace: ");
+    station::printing::print_hex(reply);
+    print_mark(octet);
+}
+
+// Our reply, made once more in lent room: state and memory stand as before the record, and nothing uses them afterwards.
+fn print_ours(
+    sheet: &[u8],
+    state: &mut [u8],
+    memory: &mut [u8],
+    command: &[u8],
+    reply: &[u8],
+    octet: usize,
+    room: &mut [u8],
+) {
+    slave::exchanging::exchange(sheet, state, memory, command, room);
+    print_replies(room, reply, octet);
+}
+
+// A record of the trace and the first octet in which our reply differs.
+pub fn print_difference(
+    sheet: &[u8],
+    state: &mut [u8],
+    memory: &mut [u8],
+    command: &[u8],
+    reply: &[u8],
+    record: u64,
+    octet: usize,
+) {
+    words::print(b"record ");
+    words::print_number(record);
+    words::print(b" differs at octet ");
+    words::print_number(octet as u64);
+    words::print(b"\n");
+    words::print_command(command);
+    let l = reply.len();
+    let mut room = [0u8; 64];
+    if l <= 64 {
+        print_ours(
+            sheet,
+            state,
+            memory,
+            command,
+            reply,
+            octet,
+            &mut room[..l],
+        );
+    }
+}

@@ -1,0 +1,164 @@
+// Refusals and commands in words.
+use libc::STDOUT_FILENO;
+use machine::words::Command;
+
+pub fn print(words: &[u8]) {
+    io::write_all(STDOUT_FILENO, words);
+}
+
+pub fn print_number(n: u64) {
+    io::print_decimal(STDOUT_FILENO, n);
+}
+
+// A refusal's meaning: document 01's numbers, and request 6's for a trace.
+fn print_meaning(number: u8) {
+    match number {
+        1 => print(b"state record of wrong length or not valid"),
+        2 => print(b"memory length not the sum of the regions"),
+        5 => print(b"the slave is Disabled"),
+        11 => print(b"sheet ended before an end record"),
+        12 => print(b"unknown kind of a sheet record"),
+        13 => print(b"kind of a sheet record out of place"),
+        14 => print(b"a field of the sheet out of range"),
+        15 => print(b"sheet records out of order or overlapping"),
+        16 => print(b"too many sheet records or too much memory"),
+        17 => print(b"a parameter's span not wholly in regions"),
+        31 => print(b"unknown kind"),
+        32 => print(b"a kind of another length than the sheet's"),
+        33 => print(b"record cut short"),
+        _ => print(b"not known"),
+    }
+}
+
+// A refusal's place, as far as its number has one.
+fn print_place(number: u8, place: u64) {
+    if number < 11 {
+        return;
+    }
+    print(b", at octet ");
+    print_number(place);
+    if number < 31 {
+        print(b" of the sheet");
+        return;
+    }
+    print(b" of the trace");
+}
+
+// A refusal's line.
+pub fn print_refusal(number: u8, place: u64) {
+    print(b"refused: ");
+    print_number(number as u64);
+    print(b", ");
+    print_meaning(number);
+    print_place(number, place);
+    print(b"\n");
+}
+
+// An octet in hex.
+fn print_octet(octet: u8) {
+    station::printing::write_hex(&[octet]);
+}
+
+// A number of octets.
+fn print_size(n: u64) {
+    print(b", ");
+    print_number(n);
+    print(b" octets");
+}
+
+// The span of a memory command: a mode that names no element is shown as it stands.
+fn print_span(c: Command) {
+    let count = c.count as u64;
+    let mode = c.mode;
+    match mode {
+        0x11 => print_size(count),
+        0x12 => print_size(2 * count),
+        0x13 => print_size(4 * count),
+        _ => {
+            print(b", mode ");
+            print_octet(mode);
+            print(b", count ");
+            print_number(count);
+        }
+    }
+}
+
+// A memory command's data; at L 8 it has no address.
+fn print_memory(command: &[u8], c: Command) {
+    if command.len() < 12 {
+        print(b" without an address");
+        print_span(c);
+        return;
+    }
+    print(b" address ");
+    print_octet(octets::octet(command, 11));
+    print_octet(octets::octet(command, 10));
+    print_octet(octets::octet(command, 9));
+    print_octet(octets::octet(command, 8));
+    print_span(c);
+}
+
+// A parameter command's data.
+fn print_parameter(c: Command) {
+    print(b" number ");
+    print_number(c.number as u64);
+    print_size(c.size as u64);
+}
+
+// An ID command's data.
+fn print_item(c: Command) {
+    print(b" item ");
+    print_octet(c.item);
+    print(b", offset ");
+    print_number(c.offset as u64);
+    print_size(c.count as u64);
+}
+
+// A connection's fields.
+fn print_connection(c: Command) {
+    print(b" version ");
+    print_octet(c.version);
+    print(b", com_mod ");
+    print_octet(c.com_mod);
+    print(b", com_time ");
+    print_number(c.com_time as u64);
+    print(b", profile ");
+    print_octet(c.profile);
+}
+
+// A code's name.
+fn print_code(code: u8) {
+    match code {
+        0x00 => print(b"NOP"),
+        0x01 => print(b"PRM_RD"),
+        0x02 => print(b"PRM_WR"),
+        0x03 => print(b"ID_RD"),
+        0x05 => print(b"ALM_RD"),
+        0x06 => print(b"ALM_CLR"),
+        0x0D => print(b"SYNC_SET"),
+        0x0E => print(b"CONNECT"),
+        0x0F => print(b"DISCONNECT"),
+        0x1D => print(b"MEM_RD"),
+        0x1E => print(b"MEM_WR"),
+        _ => {
+            print(b"unknown code ");
+            print_octet(code);
+        }
+    }
+}
+
+// A command's line: its code's name, and the data that such a command has.
+pub fn print_command(command: &[u8]) {
+    let c = frame::fields::command_of(command);
+    print(b"command: ");
+    let code = c.code;
+    print_code(code);
+    match code {
+        0x01 | 0x02 => print_parameter(c),
+        0x03 => print_item(c),
+        0x0E => print_connection(c),
+        0x1D | 0x1E => print_memory(command, c),
+        _ => print(b""),
+    }
+    print(b"\n");
+}
