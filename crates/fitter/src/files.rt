@@ -9,7 +9,7 @@ fn print_about(path: &[u8], what: &[u8]) {
 }
 
 // A line about the file of an argument.
-fn print_line(i: usize, name: &[u8], what: &[u8]) {
+pub fn print_line(i: usize, name: &[u8], what: &[u8]) {
     let mut path = io::buffer();
     let n = os::arg(i, &mut path);
     if os::errno() == 0 {
@@ -48,14 +48,14 @@ pub fn open(i: usize, name: &[u8]) -> i32 {
     open_named(&path[..n])
 }
 
-// Why a file gave no octet: a directory opens, and cannot be read.
-pub fn print_empty(fd: i32, i: usize, name: &[u8]) {
+// Whether a file that gave no more octets is at its end: a read that fails gives none either, and gets its line.
+pub fn is_at_end(fd: i32, i: usize, name: &[u8]) -> bool {
     let mut one = [0u8; 1];
     if libc::read(fd, &mut one) < 0 {
         print_line(i, name, b": cannot be read\n");
-        return;
+        return false;
     }
-    print_line(i, name, b": empty\n");
+    true
 }
 
 // A file whole in lent room that has one octet more than such a file may have; how many octets it has.
@@ -63,11 +63,10 @@ pub fn read(fd: i32, i: usize, name: &[u8], room: &mut [u8]) -> usize
     ensures { λ r. ⌜ Counts r (now (room .exit)) ⌝ }
 {
     let n = io::read_full(fd, room);
-    if n == 0 {
-        print_empty(fd, i, name);
-    }
     if n == room.len() {
         print_line(i, name, b": too long\n");
+    } else if is_at_end(fd, i, name) && n == 0 {
+        print_line(i, name, b": empty\n");
     }
     libc::close(fd);
     n

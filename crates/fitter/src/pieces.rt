@@ -6,11 +6,28 @@ use libc::STDERR_FILENO;
 use std::num::wrapping_add_u64;
 ghost use Prim.Native.Nat.{_≤_};
 
-// How far a pass is: whether the file may go on, and the octets or records behind it. No file is long enough for the count to wrap.
+// How far a pass is: whether the file may go on, whether nothing was wrong, and the octets or records behind it. No file is long enough for the
+// count to wrap.
 struct Pass {
     more: bool,
     good: bool,
     count: u64,
+}
+
+fn going(count: u64) -> Pass {
+    Pass {
+        more: true,
+        good: true,
+        count,
+    }
+}
+
+fn ended(good: bool, count: u64) -> Pass {
+    Pass {
+        more: false,
+        good,
+        count,
+    }
 }
 
 // The octets of a piece: as many whole records as a large buffer holds.
@@ -27,45 +44,32 @@ fn piece_length(l: u8) -> usize
 }
 
 // A line on standard error for each 100,000 records, so that a long trace is seen to go on.
-fn print_progress(before: u64, after: u64) {
+fn print_progress(before: u64, after: u64, what: &[u8]) {
     if before / 100000 == after / 100000 {
         return;
     }
     io::print_decimal(STDERR_FILENO, after);
-    io::write_all(STDERR_FILENO, b" records agree so far\n");
+    io::write_all(STDERR_FILENO, what);
 }
 
-// The form of the next piece in lent room.
+// The form of the next piece in lent room, behind octets that are counted.
 fn form_in(fd: i32, l: u8, piece: &mut [u8], before: u64) -> Pass {
     let got = io::read_full(fd, piece);
     if got == 0 {
-        return Pass {
-            more: false,
-            good: true,
-            count: before,
-        };
+        return ended(files::is_at_end(fd, 4, b"trace.bin"), before);
     }
     if 65536 < got {
-        return Pass {
-            more: false,
-            good: false,
-            count: before,
-        };
+        return ended(false, before);
     }
     let told = replay::whole::form(&piece[..got], l);
     if told.number != 0 {
         words::print_refusal(told.number, wrapping_add_u64(before, told.place as u64));
-        return Pass {
-            more: false,
-            good: false,
-            count: before,
-        };
+        return ended(false, before);
     }
-    Pass {
-        more: true,
-        good: true,
-        count: wrapping_add_u64(before, got as u64),
-    }
+    let after = wrapping_add_u64(before, got as u64);
+    let size = 1 + 2 * (l as u64);
+    print_progress(before / size, after / size, b" records have their form\n");
+    going(after)
 }
 
 // The form of the next piece.
@@ -79,7 +83,7 @@ fn form_next(fd: i32, l: u8, before: u64) -> Pass {
 pub fn is_formed(fd: i32, l: u8) -> bool {
     let mut pass = form_next(fd, l, 0);
     if !pass.more && pass.good {
-        files::print_empty(fd, 4, b"trace.bin");
+        files::print_line(4, b"trace.bin", b": empty\n");
     }
     let mut turns = u64::MAX;
     while turns > 0 && pass.more {
@@ -132,7 +136,7 @@ fn print_record(
     );
 }
 
-// The exchanges of a piece.
+// The exchanges of a piece, behind records that are counted. Its form was right in the first pass.
 fn play_piece(
     sheet: &[u8],
     state: &mut [u8],
@@ -142,25 +146,17 @@ fn play_piece(
     before: u64,
 ) -> Pass {
     let told = replay::playing::replay(sheet, state, memory, piece);
-    let after = wrapping_add_u64(before, told.place as u64);
     if told.number == 0 {
-        print_progress(before, after);
-        return Pass {
-            more: true,
-            good: true,
-            count: after,
-        };
+        let after = wrapping_add_u64(before, told.place as u64);
+        print_progress(before, after, b" records agree\n");
+        return going(after);
     }
     if told.number == replay::told::DIFFERS {
         print_record(sheet, state, memory, piece, l, told.place, before);
-    } else {
-        words::print_refusal(told.number, told.place as u64);
+        return ended(false, before);
     }
-    Pass {
-        more: false,
-        good: false,
-        count: before,
-    }
+    files::print_line(4, b"trace.bin", b": changed while it was read\n");
+    ended(false, before)
 }
 
 // The exchanges of the next piece in lent room.
@@ -175,11 +171,7 @@ fn play_in(
 ) -> Pass {
     let got = io::read_full(fd, piece);
     if got == 0 {
-        return Pass {
-            more: false,
-            good: true,
-            count: before,
-        };
+        return ended(files::is_at_end(fd, 4, b"trace.bin"), before);
     }
     play_piece(sheet, state, memory, &piece[..got], l, before)
 }
@@ -200,11 +192,7 @@ fn play_next(
 
 // The exchanges of all pieces.
 fn play_all(fd: i32, sheet: &[u8], state: &mut [u8], memory: &mut [u8], l: u8) -> Pass {
-    let mut pass = Pass {
-        more: true,
-        good: true,
-        count: 0,
-    };
+    let mut pass = going(0);
     let mut turns = u64::MAX;
     while turns > 0 && pass.more {
         pass = play_next(fd, sheet, state, memory, l, pass.count);

@@ -52,14 +52,6 @@ pub fn print_difference(
     let l = reply.len();
     let mut room = [0u8; 64];
     if l <= 64 {
-        print_ours(
-            sheet,
-            state,
-            memory,
-            command,
-            reply,
-            octet,
-            &mut room[..l],
-        );
+        print_ours(sheet, state, memory, command, reply, octet, &mut room[..l]);
     }
 }

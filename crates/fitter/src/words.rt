@@ -66,14 +66,14 @@ fn print_size(n: u64) {
     print(b" octets");
 }
 
-// The span of a memory command: a mode that names no element is shown as it stands.
+// The span of a memory command, by the element of its mode's high half; a mode that names no element is shown as it stands.
 fn print_span(c: Command) {
     let count = c.count as u64;
     let mode = c.mode;
     match mode {
         0x11 => print_size(count),
-        0x12 => print_size(2 * count),
-        0x13 => print_size(4 * count),
+        0x21 => print_size(2 * count),
+        0x31 => print_size(4 * count),
         _ => {
             print(b", mode ");
             print_octet(mode);

@@ -18,5 +18,5 @@ loop-less c = omega arith
 
 pub is-formed-spec : {M : Type 1} → statement M
 is-formed-spec =
-    tie.close (tie.spec Inv-loop μ-loop (λ c κs. tt) (λ c. search needs) (λ c κs. search needs) (λ c. tt) (λ c κs. search needs) sub-turns loop-less
-    (λ c. tt) (λ c. search needs) (λ c. search needs))
+    tie.close (tie.spec Inv-loop μ-loop (λ c κs. tt) (λ c. search needs) (λ c. search needs) (λ c κs. search needs) (λ c. tt) (λ c κs. search needs)
+    sub-turns loop-less (λ c. tt) (λ c. search needs) (λ c. search needs))

@@ -38,5 +38,5 @@ same-length-4 c = omega arith
 
 pub play-all-spec : {M : Type 1} → statement M
 play-all-spec =
-    tie.close (tie.spec Inv-loop μ-loop loop-holds (λ c κs. search needs) sub-turns loop-less loop-again same-length same-length-2
-    (λ c. search needs) same-length-3 same-length-4 (λ c. search needs))
+    tie.close (tie.spec Inv-loop μ-loop (λ c κs. search needs) loop-holds (λ c κs. search needs) sub-turns loop-less loop-again same-length
+    same-length-2 (λ c. search needs) same-length-3 same-length-4 (λ c. search needs))
