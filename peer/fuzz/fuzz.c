@@ -11,6 +11,7 @@
 #include "lent.h"
 #include "marks.h"
 #include "sheets.h"
+#include "trace.h"
 
 #include <stddef.h>
 #include <stdint.h>
@@ -25,7 +26,9 @@
     uint64_t name##_enable(const uint8_t *, size_t, uint8_t *, size_t);        \
     uint64_t name##_exchange(const uint8_t *, size_t, uint8_t *, size_t,       \
                              uint8_t *, size_t, const uint8_t *, size_t,       \
-                             uint8_t *, size_t)
+                             uint8_t *, size_t);                               \
+    uint64_t name##_replay(const uint8_t *, size_t, uint8_t *, size_t,         \
+                           uint8_t *, size_t, const uint8_t *, size_t)
 
 ENGINE(t24);
 ENGINE(peer);
@@ -38,7 +41,7 @@ enum { SIDES = 2, STEPS = 48 };
 /* What both engines are lent, once for each side. */
 static struct rig {
     struct lent sheet[SIDES], state[SIDES], memory[SIDES];
-    struct lent command[SIDES], reply[SIDES];
+    struct lent command[SIDES], reply[SIDES], trace[SIDES];
     int at_end; /* on which side of the buffers the untouchable pages are */
 } rig;
 
@@ -78,6 +81,7 @@ static void lend_both(struct lent *sides, const uint8_t *octets, size_t length)
 #define MEMORY(side) rig.memory[side].octets, rig.memory[side].length
 #define COMMAND(side) rig.command[side].octets, rig.command[side].length
 #define REPLY(side) rig.reply[side].octets, rig.reply[side].length
+#define TRACE(side) rig.trace[side].octets, rig.trace[side].length
 
 static void ask_sheet(void)
 {
@@ -113,15 +117,79 @@ static void exchange(const uint8_t *octets, size_t length, size_t reply_length)
     memset(old, 0x5A, sizeof old);
     lend_both(rig.command, octets, length);
     lend_both(rig.reply, old, reply_length);
+    keep_start(STATE(0), MEMORY(0));
     peer = peer_exchange(SHEET(0), STATE(0), MEMORY(0), COMMAND(0), REPLY(0));
     t24 = t24_exchange(SHEET(1), STATE(1), MEMORY(1), COMMAND(1), REPLY(1));
     check("exchange", peer, t24);
     same("command", rig.command);
     same("reply", rig.reply);
     mark_call("exchange", peer);
-    if (peer == 0)
-        mark_exchange(octets, rig.reply[0].octets, length, link,
-                      rig.state[0].octets[1]);
+    if (peer != 0)
+        return;
+    mark_exchange(octets, rig.reply[0].octets, length, link,
+                  rig.state[0].octets[1]);
+    keep_record(octets, rig.reply[0].octets, length);
+}
+
+/* Replays a trace from the state and memory that are lent. */
+static uint64_t replay(const uint8_t *trace, size_t length)
+{
+    uint64_t peer, t24;
+
+    lend_both(rig.trace, trace, length);
+    peer = peer_replay(SHEET(0), STATE(0), MEMORY(0), TRACE(0));
+    t24 = t24_replay(SHEET(1), STATE(1), MEMORY(1), TRACE(1));
+    check("replay", peer, t24);
+    same("trace", rig.trace);
+    mark_call("replay", peer);
+    return peer;
+}
+
+/* Replays from where the kept trace starts, and then goes on as before. */
+static void replay_kept(const uint8_t *trace, size_t length, int whole)
+{
+    static uint8_t state[sizeof kept.state], memory[sizeof kept.memory];
+    const size_t state_length = rig.state[0].length;
+    const size_t memory_length = rig.memory[0].length;
+    uint64_t answer;
+
+    memcpy(state, rig.state[0].octets, state_length);
+    memcpy(memory, rig.memory[0].octets, memory_length);
+    lend_both(rig.state, kept.state, kept.state_length);
+    lend_both(rig.memory, kept.memory, kept.memory_length);
+    answer = replay(trace, length);
+    if (whole && answer != kept.records << 32)
+        fail("the replay of own exchanges", kept.records << 32, answer);
+    if (whole && (memcmp(rig.state[0].octets, state, state_length) != 0
+                  || memcmp(rig.memory[0].octets, memory, memory_length) != 0))
+        fail("what the replay of own exchanges leaves", 0, 0);
+    lend_both(rig.state, state, state_length);
+    lend_both(rig.memory, memory, memory_length);
+}
+
+/* The kept trace is replayed before the state changes by other means. */
+static void end_trace(void)
+{
+    if (kept.records > 0)
+        replay_kept(kept.octets, kept.length, 1);
+    keep_nothing();
+}
+
+/* The kept trace changed, or a few octets from where the slave is now. */
+static void replay_step(struct input *in)
+{
+    static uint8_t trace[TRACE_ROOM];
+    size_t length;
+
+    if (kept.records > 0) {
+        length = change_trace(in, trace);
+        replay_kept(trace, length, 0);
+        return;
+    }
+    length = take(in) % 4;
+    for (size_t at = 0; at < length; at++)
+        trace[at] = take(in);
+    replay(trace, length);
 }
 
 /* Changes one octet of the state, the same on both sides. */
@@ -157,16 +225,22 @@ static void step(struct input *in, const struct parts *parts)
 
     switch (control) {
     case 0xE0:
+        end_trace();
         reset();
         break;
     case 0xE1:
+        end_trace();
         enable();
         break;
     case 0xE2:
         ask_sheet();
         break;
     case 0xE3:
+        end_trace();
         poke(in);
+        break;
+    case 0xE4:
+        replay_step(in);
         break;
     default:
         exchange_step(in, parts, control);
@@ -193,8 +267,8 @@ static void lend_all(struct input *in, struct parts *parts)
 
 int LLVMFuzzerInitialize(int *argc, char ***argv)
 {
-    struct lent *all[] = {rig.sheet, rig.state, rig.memory, rig.command,
-                          rig.reply};
+    struct lent *all[] = {rig.sheet,   rig.state, rig.memory,
+                          rig.command, rig.reply, rig.trace};
 
     (void)argc;
     (void)argv;
@@ -210,6 +284,7 @@ int LLVMFuzzerTestOneInput(const uint8_t *octets, size_t length)
     struct input in = {octets, length};
 
     lend_all(&in, &parts);
+    keep_nothing();
     ask_sheet();
     if (parts.start_by_reset) {
         reset();
@@ -217,5 +292,6 @@ int LLVMFuzzerTestOneInput(const uint8_t *octets, size_t length)
     }
     for (int count = 0; count < STEPS && in.left > 0; count++)
         step(&in, &parts);
+    end_trace();
     return 0;
 }

@@ -20,8 +20,10 @@ static int telling(void)
 /* A sheet's faults are told by the call that asks for them. */
 static void mark_call(const char *call, uint64_t answer)
 {
-    if (telling() && ((answer & 0xFF) < 11 || strcmp(call, "sheet") == 0))
-        fprintf(stderr, "mark %s_%u\n", call, (unsigned)(answer & 0xFF));
+    const unsigned number = answer & 0xFF;
+
+    if (telling() && (number < 11 || number > 30 || strcmp(call, "sheet") == 0))
+        fprintf(stderr, "mark %s_%u\n", call, number);
 }
 
 /* An exchange that was answered: a lost cycle, or its code with the alarm, and
