@@ -12,11 +12,11 @@ fn print_about(path: &[u8], what: &[u8]) {
 pub fn print_line(i: usize, name: &[u8], what: &[u8]) {
     let mut path = io::buffer();
     let n = os::arg(i, &mut path);
-    if os::errno() == 0 {
-        print_about(&path[..n], what);
+    if n == 0 {
+        print_about(name, what);
         return;
     }
-    print_about(name, what);
+    print_about(&path[..n], what);
 }
 
 // A file open for reading; one that is not gets its line, and the answer is negative.
@@ -33,17 +33,16 @@ fn open_named(path: &[u8]) -> i32 {
     fd
 }
 
-// The file of an argument, or of its default name.
+// The file of an argument, or of its default name where there is none or an empty one.
 pub fn open(i: usize, name: &[u8]) -> i32 {
     let mut path = io::buffer();
     let n = os::arg(i, &mut path);
-    let error = os::errno();
-    if error == libc::EINVAL {
-        return open_named(name);
-    }
-    if error != 0 {
+    if os::errno() == libc::ENAMETOOLONG {
         print_about(name, b": the name given for it is too long\n");
         return -1;
+    }
+    if n == 0 {
+        return open_named(name);
     }
     open_named(&path[..n])
 }

@@ -33,7 +33,7 @@ fn print_ours(
     print_replies(room, reply, octet);
 }
 
-// A record of the trace and the first octet in which our reply differs.
+// A record of the trace, counted from 0 as the library counts, and the first octet in which our reply differs.
 pub fn print_difference(
     sheet: &[u8],
     state: &mut [u8],

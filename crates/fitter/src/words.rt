@@ -16,7 +16,7 @@ fn print_meaning(number: u8) {
         1 => print(b"state record of wrong length or not valid"),
         2 => print(b"memory length not the sum of the regions"),
         5 => print(b"the slave is Disabled"),
-        11 => print(b"sheet ended before an end record"),
+        11 => print(b"sheet cut short or over 2048 octets"),
         12 => print(b"unknown kind of a sheet record"),
         13 => print(b"kind of a sheet record out of place"),
         14 => print(b"a field of the sheet out of range"),
@@ -63,10 +63,14 @@ fn print_octet(octet: u8) {
 fn print_size(n: u64) {
     print(b", ");
     print_number(n);
+    if n == 1 {
+        print(b" octet");
+        return;
+    }
     print(b" octets");
 }
 
-// The span of a memory command, by the element of its mode's high half; a mode that names no element is shown as it stands.
+// The span of a memory command, by the element in its mode's high half (docs/DECISIONS.md, 1); a mode that names none is shown as it stands.
 fn print_span(c: Command) {
     let count = c.count as u64;
     let mode = c.mode;
