@@ -1,4 +1,4 @@
-/* Stack that each of the five calls takes, by number of records in the sheet:
+/* Stack that each of the calls takes, by number of records in the sheet:
  * a call runs on a painted stack, and what lost its paint is counted, less what
  * an empty function takes there. */
 #ifndef _XOPEN_SOURCE
@@ -13,7 +13,8 @@
 
 #define PAINT 0xA7
 #define L 64u
-#define CALLS 5
+#define CALLS 6
+#define RECORD (1u + 2u * L)
 
 struct size {
     const char *name;
@@ -33,7 +34,8 @@ static ucontext_t here, there;
 static struct built sheet;
 static uint8_t state[T24_STATE_LEN], memory[T24_MEMORY_MAX];
 static uint8_t command[L], reply[L];
-static size_t memory_len;
+static uint8_t start[T24_STATE_LEN], trace[16 * RECORD];
+static size_t memory_len, trace_len;
 static uint64_t answer;
 
 static void build(const struct size *size)
@@ -75,6 +77,23 @@ static void ask_exchange(void)
     answer = t24_exchange(sheet.octets, sheet.len, state, sizeof state, memory,
                           memory_len, command, sizeof command, reply,
                           sizeof reply);
+}
+
+/* The writes wrote zeros over zeros, so the memory is as at the start. */
+static void ask_replay(void)
+{
+    answer = t24_replay(sheet.octets, sheet.len, start, sizeof start, memory,
+                        memory_len, trace, trace_len)
+             != (uint64_t)(trace_len / RECORD) << 32;
+}
+
+/* The exchange just made becomes the trace's next record. */
+static void keep_record(void)
+{
+    trace[trace_len] = T24_TRACE_8 + 4;
+    memcpy(trace + trace_len + 1, command, L);
+    memcpy(trace + trace_len + 1 + L, reply, L);
+    trace_len += RECORD;
 }
 
 /* Octets that lost their paint while the function ran there. */
@@ -128,12 +147,15 @@ static size_t used_by_exchange(const struct size *size)
     };
     size_t i, used, most = 0;
 
+    memcpy(start, state, sizeof start);
+    trace_len = 0;
     for (i = 0; i < sizeof codes; i++) {
         make_command(codes[i], size);
         used = used_by(ask_exchange);
         most = used > most ? used : most;
         if (size->items > 0 && t24_reply_alarm(reply) != 0)
             exit(3);
+        keep_record();
     }
     return most;
 }
@@ -149,6 +171,7 @@ static void measure(const struct size *size, double *used)
     used[2] = (double)(used_by(ask_reset) - empty);
     used[3] = (double)(used_by(ask_enable) - empty);
     used[4] = (double)(used_by_exchange(size) - empty);
+    used[5] = (double)(used_by(ask_replay) - empty);
 }
 
 /* Least squares: octets for each record, and those for none. */
@@ -174,8 +197,8 @@ int main(void)
     size_t i;
     int call;
 
-    puts("| records | t24_sheet | t24_lengths | t24_reset | t24_enable | t24_exchange |");
-    puts("|---|---:|---:|---:|---:|---:|");
+    puts("| records | t24_sheet | t24_lengths | t24_reset | t24_enable | t24_exchange | t24_replay |");
+    puts("|---|---:|---:|---:|---:|---:|---:|");
     for (i = 0; i < SIZES; i++) {
         records[i] = 2 + sizes[i].regions + sizes[i].parameters + sizes[i].items;
         measure(&sizes[i], used[i]);
