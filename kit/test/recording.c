@@ -9,19 +9,23 @@ static const struct {
     uint8_t octets[16];
     uint8_t alarm; /* at an L that has room for addresses */
 } script[RECORDS] = {
-    { { T24_MEM_WR, 0, 0, 0, 0, T24_ELEMENT_1, 3, 0, 0, 0x10, 0, 0, 0xB1, 0xB2, 0xB3 }, 0 },
+    { { T24_MEM_WR, 0, 0, 0, 0, T24_ELEMENT_1, 3, 0, 0, 0x10, 0, 0,
+        0xB1, 0xB2, 0xB3 }, 0 },
     { { T24_MEM_RD, 0, 0, 0, 0, T24_ELEMENT_2, 2, 0, 0, 0x10 }, 0 },
     { { T24_PRM_WR, 0, 0, 0, 7, 0, 2, 0, 0xC1, 0xC2 }, 0 },
     { { 0x77 }, T24_ALARM_CODE },
-    { { T24_MEM_RD, 0, 0, 0, 0, T24_ELEMENT_1, 1, 0, 4, 0x10 }, T24_ALARM_RIGHTS },
+    { { T24_MEM_RD, 0, 0, 0, 0, T24_ELEMENT_1, 1, 0, 4, 0x10 },
+      T24_ALARM_RIGHTS },
     { { T24_ALM_RD }, 0 },
     { { T24_SYNC_SET }, 0 },
     { { T24_NOP }, 0 },
     { { T24_PRM_RD, 0, 0, 0, 7, 0, 2 }, 0 },
-    { { T24_MEM_WR, 0, 0, 0, 0, T24_ELEMENT_1, 1, 0, 0, 0x10, 0, 0, 0xD1 }, T24_ALARM_RIGHTS },
+    { { T24_MEM_WR, 0, 0, 0, 0, T24_ELEMENT_1, 1, 0, 0, 0x10, 0, 0, 0xD1 },
+      T24_ALARM_RIGHTS },
     { { T24_ALM_CLR }, 0 },
     { { T24_CONNECT, 0, 0, 0, 0x30, 0, 1, 0 }, T24_ALARM_LINK },
-    { { T24_MEM_WR, 0, 0, 0, 0, T24_ELEMENT_4, 1, 0, 4, 0x10, 0, 0, 0xE1, 0xE2, 0xE3, 0xE4 }, 0 }
+    { { T24_MEM_WR, 0, 0, 0, 0, T24_ELEMENT_4, 1, 0, 4, 0x10, 0, 0,
+        0xE1, 0xE2, 0xE3, 0xE4 }, 0 }
 };
 
 unsigned kind_of(unsigned l)
