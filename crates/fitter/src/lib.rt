@@ -18,8 +18,9 @@ fn replayed(sheet: &[u8], state: &mut [u8], memory: &mut [u8], trace: i32) {
     let Verdict::Valid(layout) = verdict else {
         return;
     };
-    if pieces::is_formed(trace, layout.l) {
-        pieces::play(sheet, state, memory, layout.l);
+    let form = pieces::form(trace, layout.l);
+    if form.good {
+        pieces::play(sheet, state, memory, layout.l, form.count);
     }
 }
 

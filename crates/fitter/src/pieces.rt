@@ -8,10 +8,10 @@ ghost use Prim.Native.Nat.{_≤_};
 
 // How far a pass is: whether the file may go on, whether nothing was wrong, and the octets or records behind it. No file is long enough for the
 // count to wrap.
-struct Pass {
+pub struct Pass {
     more: bool,
-    good: bool,
-    count: u64,
+    pub good: bool,
+    pub count: u64,
 }
 
 fn going(count: u64) -> Pass {
@@ -43,6 +43,11 @@ fn piece_length(l: u8) -> usize
     }
 }
 
+// The whole records among octets of a trace.
+fn records(octets: u64, l: u8) -> u64 {
+    octets / (1 + 2 * (l as u64))
+}
+
 // A line on standard error for each 100,000 records, so that a long trace is seen to go on.
 fn print_progress(before: u64, after: u64, what: &[u8]) {
     if before / 100000 == after / 100000 {
@@ -58,6 +63,7 @@ fn form_in(fd: i32, l: u8, piece: &mut [u8], before: u64) -> Pass {
     if got == 0 {
         return ended(files::is_at_end(fd, 4, b"trace.bin"), before);
     }
+    // No piece is longer; the form is asked for a bound that a read does not promise.
     if 65536 < got {
         return ended(false, before);
     }
@@ -67,8 +73,11 @@ fn form_in(fd: i32, l: u8, piece: &mut [u8], before: u64) -> Pass {
         return ended(false, before);
     }
     let after = wrapping_add_u64(before, got as u64);
-    let size = 1 + 2 * (l as u64);
-    print_progress(before / size, after / size, b" records have their form\n");
+    print_progress(
+        records(before, l),
+        records(after, l),
+        b" records have their form\n",
+    );
     going(after)
 }
 
@@ -79,8 +88,8 @@ fn form_next(fd: i32, l: u8, before: u64) -> Pass {
     form_in(fd, l, &mut room[..n], before)
 }
 
-// Whether every record of the trace is whole; a proved loop has to end, so it counts down from a number that no run uses up.
-pub fn is_formed(fd: i32, l: u8) -> bool {
+// The form of the whole trace, and its octets; a proved loop has to end, so it counts down from a number that no run uses up.
+pub fn form(fd: i32, l: u8) -> Pass {
     let mut pass = form_next(fd, l, 0);
     if !pass.more && pass.good {
         files::print_line(4, b"trace.bin", b": empty\n");
@@ -90,7 +99,7 @@ pub fn is_formed(fd: i32, l: u8) -> bool {
         pass = form_next(fd, l, pass.count);
         turns -= 1;
     }
-    pass.good
+    pass
 }
 
 // Where a record of a piece begins; the kinds are taken one by one, so that each product is by a number.
@@ -122,6 +131,7 @@ fn print_record(
     let from = record_start(k, l) + 1;
     let mid = from + l as usize;
     let to = mid + l as usize;
+    // The record is one of the piece's, as the replay came to it; a test is shorter than that proof.
     if piece.len() < to {
         return;
     }
@@ -201,17 +211,22 @@ fn play_all(fd: i32, sheet: &[u8], state: &mut [u8], memory: &mut [u8], l: u8) -
     pass
 }
 
-// The exchanges of the trace, whose file is opened once more, and what came of them.
-pub fn play(sheet: &[u8], state: &mut [u8], memory: &mut [u8], l: u8) {
+// The exchanges of the trace, whose file is opened once more, and what came of them. A pipe gives its octets once only, so they are counted again.
+pub fn play(sheet: &[u8], state: &mut [u8], memory: &mut [u8], l: u8, octets: u64) {
     let fd = files::open(4, b"trace.bin");
     if fd < 0 {
         return;
     }
     let pass = play_all(fd, sheet, state, memory, l);
     libc::close(fd);
-    if pass.good {
-        words::print(b"all agree: ");
-        words::print_number(pass.count);
-        words::print(b" records\n");
+    if !pass.good {
+        return;
     }
+    if pass.count != records(octets, l) {
+        files::print_line(4, b"trace.bin", b": changed while it was read\n");
+        return;
+    }
+    words::print(b"all agree: ");
+    words::print_number(pass.count);
+    words::print(b" records\n");
 }
