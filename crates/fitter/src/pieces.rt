@@ -63,11 +63,7 @@ fn form_in(fd: i32, l: u8, piece: &mut [u8], before: u64) -> Pass {
     if got == 0 {
         return ended(files::is_at_end(fd, 4, b"trace.bin"), before);
     }
-    // No piece is longer; the form is asked for a bound that a read does not promise.
-    if 65536 < got {
-        return ended(false, before);
-    }
-    let told = replay::whole::form(&piece[..got], l);
+    let told = replay::whole::checked(&piece[..got], l);
     if told.number != 0 {
         words::print_refusal(told.number, wrapping_add_u64(before, told.place as u64));
         return ended(false, before);

@@ -56,6 +56,10 @@ formFrom l trace k (suc n) = formed (recordAt l trace (k * recordSize l)) (k * r
 abbrev pub formOf : ℕ → List ℕ → Told
 formOf l trace = formFrom l trace 0 (suc (length trace))
 
+-- the same of a trace of any length: one whose places would not fit an answer is 35
+unfoldable pub checkedForm : ℕ → List ℕ → Told
+checkedForm l trace = pick (ltb 1073741823 (length trace)) (says 35 0) (formOf l trace)
+
 -- one record: what the fitter sent, and what came back
 pub record Traced : Type 0 where
   pub command : List ℕ

@@ -4,7 +4,7 @@ use crate::told::Told;
 ghost use mathlib.Core.Path.{_≡_};
 ghost use Prim.Native.Nat.{_≤_};
 ghost use lib.ListN.{length};
-ghost use Rattle.replay.specs.Trace.{faultIn, formOf};
+ghost use Rattle.replay.specs.Trace.{faultIn, formOf, checkedForm};
 
 // The number of a record's fault; 0 where it has none.
 fn fault_in(found: Record) -> u8
@@ -35,4 +35,14 @@ pub fn form(trace: &[u8], l: u8) -> Told
         at += size;
     }
     crate::told::plain(0)
+}
+
+// The form of a trace of any length: what other crates call.
+pub fn checked(trace: &[u8], l: u8) -> Told
+    ensures { λ r. ⌜ r ≡ checkedForm l (now (trace .entry)) ⌝ }
+{
+    if 1073741823 < trace.len() {
+        return crate::told::plain(crate::told::TOO_LONG);
+    }
+    form(trace, l)
 }
