@@ -15,7 +15,7 @@ use lib.Seq.{drop-append-le, drop-append-add}
 use Rattle.octets.specs.Parts.{part}
 use Rattle.octets.specs.Pick.{pick}
 use Rattle.octets.proofs.Cases.{eq-or-ne, lt-or-le}
-use Rattle.octets.proofs.Pick.{pick-yes, pick-no, pick-eq, pick-ne, pick-ge, pick-le, pick-gt, pick-same, pick-both, passed}
+use Rattle.octets.proofs.Pick.{pick-yes, pick-no, pick-ne, pick-ge, pick-le, pick-gt, pick-same, pick-both, passed}
 use Rattle.link.specs.declared.state.LinkState.{LinkState}
 use Rattle.sheet.specs.declared.walk.Layout.{Layout}
 use Rattle.replay.specs.Replay.{Replayed, replayed, Stepped, steppedOf, onStep, playOf, replayOf}
@@ -23,6 +23,7 @@ use Rattle.replay.specs.Trace.{Traced, traced, says, kindLength, recordSize, fa
 use Rattle.replay.specs.declared.form.Record.{Record}
 use Rattle.replay.specs.declared.form.Record.the-variants.{End, Whole, Bad}
 use Rattle.replay.specs.declared.told.Told.{Told}
+use Rattle.replay.proofs.Forms.{form-end, form-on}
 use Rattle.demands.specs.Replays.{ours, Playable, goesOn, FormsJoin, further, ReplayCutInTwo}
 use Rattle.demands.proofs.Cut.{cut-in-two}
 use Rattle.demands.proofs.Lists.{part-length}
@@ -32,17 +33,8 @@ use Rattle.demands.proofs.Playing.{replay-plays, again}
 abbrev Joined : ℕ → Told → Told → Type 0
 Joined p x y = (y .number ≡ 0 → x .number ≡ 0) × ((y .number ≡ 0 → ⊥) → x ≡ says (y .number) (p + y .place))
 
--- the form from a place on: behind the last octet, behind a whole record, and where no fault is told
-form-end : (l : ℕ) (s : List ℕ) (k n : ℕ) → length s ≤ k * recordSize l → formFrom l s k n ≡ says 0 0
-unfolding formFrom formed recordAt
-form-end l s k zero h = refl
-form-end l s k (suc n) h = ap (λ (r : Record). formed r (k * recordSize l) (formFrom l s (suc k) n)) (pick-le _ _ h)
-
+-- where the form from a record on tells no fault, that record has none
 module _ (l : ℕ) (s : List ℕ) (k n : ℕ) (h : k * recordSize l < length s) where
-  form-on : faultOf l (drop (k * recordSize l) s) ≡ 0 → formFrom l s k (suc n) ≡ formFrom l s (suc k) n
-  unfolding formFrom formed recordAt
-  form-on e = ap (λ (r : Record). formed r (k * recordSize l) (formFrom l s (suc k) n)) (pick-gt _ _ h ∙ pick-eq _ _ e)
-
   form-first : formFrom l s k (suc n) .number ≡ 0 → faultOf l (drop (k * recordSize l) s) ≡ 0
   unfolding formFrom formed recordAt
   form-first z =
