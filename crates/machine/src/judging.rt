@@ -13,6 +13,7 @@ use sheet::walk::Layout;
 ghost use mathlib.Core.Path.{_≡_};
 ghost use Prim.Native.Nat.{_-_};
 ghost use Rattle.regions.specs.Apart.{Laid};
+ghost use Rattle.sheet.specs.Sound.{Counted, countsOf};
 ghost use Rattle.machine.specs.Judging.{parameterOf, itemOf, alarmsOf, clearOf, elementOf, memoryOf, dataOf, judgeOf};
 
 // The octets behind the first `taken` of a PDU; none where it is shorter.
@@ -27,7 +28,7 @@ fn room(l: u8, taken: u8) -> u8
 
 // PRM_RD and PRM_WR.
 pub fn parameter(writes: bool, sheet: &[u8], layout: Layout, st: LinkState, c: Command) -> Judgement
-    requires { ⌜ Laid (now sheet) (layout .regions) ⌝ }
+    requires { ⌜ Counted (now sheet) (countsOf layout) ⌝ }
     ensures { λ r. ⌜ r ≡ parameterOf writes (now (sheet .entry)) layout st c ⌝ }
 {
     let found = sheet::entries::find_parameter(sheet, layout.regions, layout.parameters, c.number);
@@ -154,7 +155,7 @@ pub fn memory(writes: bool, sheet: &[u8], layout: Layout, st: LinkState, c: Comm
 
 // Checks 4 and 5 of a known code.
 pub fn data_checks(sheet: &[u8], layout: Layout, st: LinkState, c: Command) -> Judgement
-    requires { ⌜ Laid (now sheet) (layout .regions) ⌝ }
+    requires { ⌜ Counted (now sheet) (countsOf layout) ⌝ }
     ensures { λ r. ⌜ r ≡ dataOf (now (sheet .entry)) layout st c ⌝ }
 {
     let code = c.code;
@@ -175,7 +176,7 @@ pub fn data_checks(sheet: &[u8], layout: Layout, st: LinkState, c: Command) -> J
 
 // Checks 2 to 5.
 pub fn judge(sheet: &[u8], layout: Layout, st: LinkState, c: Command) -> Judgement
-    requires { ⌜ Laid (now sheet) (layout .regions) ⌝ }
+    requires { ⌜ Counted (now sheet) (countsOf layout) ⌝ }
     ensures { λ r. ⌜ r ≡ judgeOf (now (sheet .entry)) layout st c ⌝ }
 {
     if !crate::codes::is_known(c.code) {

@@ -6,7 +6,7 @@ use crate::words::Outcome;
 use link::state::LinkState;
 use sheet::walk::Layout;
 ghost use mathlib.Core.Path.{_≡_};
-ghost use Rattle.regions.specs.Apart.{Laid};
+ghost use Rattle.sheet.specs.Sound.{Counted, countsOf};
 ghost use Rattle.machine.specs.Outcomes.{counting, finished, outcomeOf};
 
 // An exchange that begins and ends in SyncConnected counts.
@@ -40,7 +40,7 @@ fn finish(st: LinkState, c: Command, judgement: Judgement) -> Outcome
 
 // What an exchange comes to.
 pub fn outcome(sheet: &[u8], layout: Layout, st: LinkState, c: Command) -> Outcome
-    requires { ⌜ Laid (now sheet) (layout .regions) ⌝ }
+    requires { ⌜ Counted (now sheet) (countsOf layout) ⌝ }
     ensures { λ r. ⌜ r ≡ outcomeOf (now (sheet .entry)) layout st c ⌝ }
 {
     let watch = st.watch;

@@ -14,6 +14,7 @@ ghost use Rattle.machine.specs.Spans.{rightOf, moved, spanPlace, spanOf}
 
 // The memory place of a span's first octet; 0 where no region has it.
 fn place_of(sheet: &[u8], regions: u8, address: u32) -> u64
+    requires { ⌜ Laid (now sheet) regions ⌝ }
     ensures { λ r. ⌜ r ≡ spanPlace (regionsOf (now (sheet .entry)) regions) address ⌝ }
 {
     match regions::search::spot_at(sheet, regions, address as u64) {

@@ -2,7 +2,7 @@
 ghost use mathlib.Core.Path.{_≡_};
 ghost use Prim.Native.Nat.{_+_, _≤_};
 ghost use lib.ListN.{length, getD, replicate};
-ghost use Rattle.octets.specs.Numbers.{le2, le4, le2At, le4At};
+ghost use Rattle.octets.specs.Numbers.{le2, le4, le4At};
 ghost use Rattle.octets.specs.Parts.{copied, putAt, allZero};
 
 // The octet at `i`; past the end it counts as 0.
@@ -27,17 +27,6 @@ pub fn le4(a: u8, b: u8, c: u8, d: u8) -> u32
     ensures { λ r. ⌜ r ≡ le4 a b c d ⌝ }
 {
     (a as u32) + 256 * (b as u32) + 65536 * (c as u32) + 16777216 * (d as u32)
-}
-
-// The number of 2 octets at `i`; octets past the end count as 0.
-pub fn le2_at(s: &[u8], i: u32) -> u16
-    ensures { λ r. ⌜ r ≡ le2At (now (s .entry)) i ⌝ }
-{
-    let at = i as usize;
-    if s.len() < at + 2 {
-        return le2(octet(s, at), octet(s, at + 1));
-    }
-    le2(s[at], s[at + 1])
 }
 
 // The number of 4 octets at `i`; octets past the end count as 0.

@@ -5,7 +5,7 @@ pub mod search; // search.rt: one octet's place and rights, and the searches ove
 ghost use mathlib.Core.Path.{_≡_};
 ghost use Prim.Native.Nat.{_+_, _≤_};
 ghost use lib.ListN.{length};
-ghost use Rattle.regions.specs.Region.{regionAt, regionFrom, holdsOf, givesOf};
+ghost use Rattle.regions.specs.Region.{regionFrom, holdsOf, givesOf};
 
 // What a region record says behind its kind octet.
 pub struct Region {
@@ -22,14 +22,7 @@ pub enum Right {
     WriteSync,
 }
 
-// Region `i` of a sheet; an octet past the sheet's end counts as 0.
-pub fn region_at(sheet: &[u8], i: u8) -> Region
-    ensures { λ r. ⌜ r ≡ regionAt (now (sheet .entry)) i ⌝ }
-{
-    region_from(sheet, 4 + 10 * (i as u16))
-}
-
-// The region record at `at` of a sheet whose end does not cut it: the way of the searches, which look at many.
+// The region record at `at` of a sheet whose end does not cut it.
 pub fn region_in(sheet: &[u8], at: usize) -> Region
     requires { ⌜ at + 10 ≤ length (now sheet) ⌝ }
     ensures { λ r. ⌜ r ≡ regionFrom (now (sheet .entry)) at ⌝ }
@@ -38,17 +31,6 @@ pub fn region_in(sheet: &[u8], at: usize) -> Region
         start: octets::le4(sheet[at + 1], sheet[at + 2], sheet[at + 3], sheet[at + 4]),
         length: octets::le4(sheet[at + 5], sheet[at + 6], sheet[at + 7], sheet[at + 8]),
         rights: sheet[at + 9],
-    }
-}
-
-// The region record whose kind octet stands at `at`.
-pub fn region_from(sheet: &[u8], at: u16) -> Region
-    ensures { λ r. ⌜ r ≡ regionFrom (now (sheet .entry)) at ⌝ }
-{
-    Region {
-        start: octets::le4_at(sheet, at as u32 + 1),
-        length: octets::le4_at(sheet, at as u32 + 5),
-        rights: octets::octet(sheet, at as usize + 9),
     }
 }
 

@@ -18,12 +18,13 @@ pub enum Spot {
 
 // The memory place and the rights of the octet at an address.
 pub fn spot_at(sheet: &[u8], regions: u8, address: u64) -> Spot
+    requires { ⌜ Laid (now sheet) regions ⌝ }
     ensures { λ r. ⌜ r ≡ spotOf (regionsOf (now (sheet .entry)) regions) 0 address ⌝ }
 {
     let mut base: u64 = 0;
     let mut i: u8 = 0;
     while i < regions {
-        let region = crate::region_at(sheet, i);
+        let region = crate::region_in(sheet, 4 + 10 * (i as usize));
         if crate::holds(region, address) {
             return Spot::At(base + (address - region.start as u64), region.rights);
         }

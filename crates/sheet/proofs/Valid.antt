@@ -1,7 +1,7 @@
 -- The laws of a valid sheet, which everything above uses.
 --     valid-sheet       what holds of a sheet with a layout
 --     valid-apart       its regions are ordered and apart
---     valid-laid        and in the sheet
+--     valid-counted     and all its records are in the sheet
 --     valid-parameter   a parameter that was found has a size in range, and its span lies wholly in regions
 --     valid-item        an ID item that was found has a length in range
 --     item-inside       and its octets stand inside the sheet
@@ -20,12 +20,12 @@ use lib.Dec.{eqb}
 use lib.ListN.{length, getD, drop}
 use Rattle.octets.proofs.Cases.{eq-or-ne, lt-or-le}
 use Rattle.octets.proofs.Pick.{passed, pick-eq, pick-ne}
-use Rattle.regions.specs.Apart.{Apart, Laid}
+use Rattle.regions.specs.Apart.{Apart}
 use Rattle.regions.specs.Region.{regionsOf}
 use Rattle.sheet.specs.Entries.{parameterAt, parametersOf, itemFrom, itemAt, itemsOf, soughtParameter, soughtItem}
 use Rattle.sheet.specs.Kinds.{isLength, misplacedOf}
 use Rattle.sheet.specs.Reading.{recordOf}
-use Rattle.sheet.specs.Sound.{Sound, Standing, FineParameter, FineItem, behind}
+use Rattle.sheet.specs.Sound.{Sound, Counted, Standing, FineParameter, FineItem, behind, countsOf}
 use Rattle.sheet.specs.Walk.{none, placeOf, layoutOf, endedOf, onward, walkOf, verdictOf}
 use Rattle.sheet.specs.declared.entries.Parameter.{Parameter}
 use Rattle.sheet.specs.declared.entries.Item.{Item}
@@ -43,9 +43,6 @@ use Rattle.sheet.proofs.Onward.{sound-apart, sound-counted, record-soun
 use Rattle.sheet.proofs.Sought.{sought-keeps}
 use Rattle.sheet.proofs.Steps.{start-sound}
 use Rattle.sheet.proofs.Walked.{standing-behind}
-
-abbrev pub countsOf : Layout → Counts
-countsOf lay = record { regions = lay .regions; parameters = lay .parameters; items = lay .items; memory = lay .memory }
 
 pub record ValidSheet (s : List ℕ) (lay : Layout) : Type 0 where
   pub l-length : isLength (lay .l) ≡ true
@@ -153,8 +150,8 @@ module _ (s : List ℕ) (lay : Layout) (ok : ValidSheet s lay) where
   pub valid-apart : Apart 0 (regionsOf s (lay .regions))
   valid-apart = sound-apart s (behind (countsOf lay)) (countsOf lay) (ok .sound)
 
-  pub valid-laid : Laid s (lay .regions)
-  valid-laid = sound-counted s (behind (countsOf lay)) (countsOf lay) (ok .sound) (omega (arith, ok .octets)) .laid
+  pub valid-counted : Counted s (countsOf lay)
+  valid-counted = sound-counted s (behind (countsOf lay)) (countsOf lay) (ok .sound) (omega (arith, ok .octets))
 
   pub valid-parameter : (n : ℕ) (p : Parameter) → soughtParameter (parametersOf s (lay .regions) (lay .parameters)) n ≡ SoughtParameter.Found p
       → FineParameter s (lay .regions) p

@@ -17,6 +17,7 @@ use Rattle.sheet.specs.Walk.{none}
 use Rattle.sheet.specs.declared.entries.Parameter.{Parameter}
 use Rattle.sheet.specs.declared.entries.Item.{Item}
 use Rattle.sheet.specs.declared.records.Counts.{Counts}
+use Rattle.sheet.specs.declared.walk.Layout.{Layout}
 
 -- a region's fields are in range
 pub record FineRegion (r : Region) : Type 0 where
@@ -60,6 +61,10 @@ pub record Sound (s : List ℕ) (at : ℕ) (so : Counts) : Type 0 where
 pub record Counted (s : List ℕ) (so : Counts) : Type 0 where
   pub inside : 10 * so .regions + 8 * so .parameters + 35 * so .items ≤ length s - 4
   pub laid : Laid s (so .regions)
+
+-- the counts of a valid sheet, out of its layout: what the machine's searches lean on is that these records are in the sheet
+abbrev pub countsOf : Layout → Counts
+countsOf lay = record { regions = lay .regions; parameters = lay .parameters; items = lay .items; memory = lay .memory }
 
 -- the walk stands before `rest`, the last octets of the sheet `s`
 pub record Standing (s rest : List ℕ) (so : Counts) : Type 0 where

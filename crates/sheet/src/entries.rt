@@ -1,8 +1,8 @@
 // Parameters and ID items, read where the caller holds the sheet. Records have fixed sizes, so counts and an index give a place.
 ghost use mathlib.Core.Path.{_≡_};
-ghost use Prim.Native.Nat.{_+_, _≤_};
+ghost use Prim.Native.Nat.{_+_, _-_, _*_, _≤_};
 ghost use lib.ListN.{length};
-ghost use Rattle.sheet.specs.Entries.{parameterFrom, parameterAt, itemFrom, itemAt, parametersOf, itemsOf, soughtParameter, soughtItem};
+ghost use Rattle.sheet.specs.Entries.{parameterFrom, itemFrom, itemAt, parametersOf, itemsOf, soughtParameter, soughtItem};
 
 // What a parameter record says behind its kind octet.
 pub struct Parameter {
@@ -28,17 +28,6 @@ pub enum SoughtItem {
     Missing,
 }
 
-// The parameter record whose kind octet stands at `at`; octets past the end count as 0.
-pub fn parameter_from(sheet: &[u8], at: u16) -> Parameter
-    ensures { λ r. ⌜ r ≡ parameterFrom (now (sheet .entry)) at ⌝ }
-{
-    Parameter {
-        number: octets::le2_at(sheet, at as u32 + 1),
-        address: octets::le4_at(sheet, at as u32 + 3),
-        size: octets::octet(sheet, at as usize + 7),
-    }
-}
-
 // The parameter record at `at` of a sheet whose end does not cut it.
 pub fn parameter_in(sheet: &[u8], at: usize) -> Parameter
     requires { ⌜ at + 8 ≤ length (now sheet) ⌝ }
@@ -49,13 +38,6 @@ pub fn parameter_in(sheet: &[u8], at: usize) -> Parameter
         address: octets::le4(sheet[at + 3], sheet[at + 4], sheet[at + 5], sheet[at + 6]),
         size: sheet[at + 7],
     }
-}
-
-// Parameter `j` of a sheet with `regions` regions.
-pub fn parameter_at(sheet: &[u8], regions: u8, j: u8) -> Parameter
-    ensures { λ r. ⌜ r ≡ parameterAt (now (sheet .entry)) regions j ⌝ }
-{
-    parameter_from(sheet, 4 + 10 * (regions as u16) + 8 * (j as u16))
 }
 
 // The ID item record whose kind octet stands at `at`; octets past the end count as 0.
@@ -79,13 +61,15 @@ pub fn item_at(sheet: &[u8], regions: u8, parameters: u8, k: u8) -> Item
     )
 }
 
-// The parameter of a number.
+// The parameter of a number, in a sheet whose end cuts no parameter.
 pub fn find_parameter(sheet: &[u8], regions: u8, parameters: u8, number: u16) -> SoughtParameter
+    requires { ⌜ 10 * regions + 8 * parameters ≤ length (now sheet) - 4 ⌝ }
     ensures { λ r. ⌜ r ≡ soughtParameter (parametersOf (now (sheet .entry)) regions parameters) number ⌝ }
 {
     let mut j: u8 = 0;
     while j < parameters {
-        let parameter = parameter_at(sheet, regions, j);
+        let at = 4 + 10 * (regions as usize) + 8 * (j as usize);
+        let parameter = parameter_in(sheet, at);
         if parameter.number == number {
             return SoughtParameter::Found(parameter);
         }

@@ -1,12 +1,18 @@
 -- `machine::judging::parameter` meets its contract: number, size, room, and the span.
 use Prim.Native.Nat.{ℕ, _<_, _≤_}
 use mathlib.Core.Path.{sym, ap, subst, _∙_}
+use native.Mathlib.Omega.{arith}
 use borrow.Author.Needs.{needs}
 use Rattle.octets.proofs.Pick.{pick-lt, pick-ge, pick-differ, pick-same}
 use Rattle.regions.specs.Region.{regionsOf}
 use Rattle.machine.specs.Judging.{parameterData, parameterOf}
 use Rattle.machine.proofs.judging.parameter.Statement.{statement}
 use Rattle.machine.proofs.judging.parameter.Tie as tie
+
+find-parameter-requires : tie.Need-find-parameter-requires
+find-parameter-requires c κs =
+    let p = c .before .pre .inside in
+    omega arith
 
 returns : tie.Need-returns
 unfolding parameterOf parameterData
@@ -38,5 +44,5 @@ returns-4 c =
 
 pub parameter-spec : {M : Type 1} → statement M
 parameter-spec =
-    tie.close (tie.spec (λ c κs. search needs) (λ c. search needs) (λ c. search needs) returns returns-2 (λ c κs. search needs) returns-3
-    (λ c κs. search needs) returns-4)
+    tie.close (tie.spec find-parameter-requires (λ c. search needs) (λ c. search needs) returns returns-2 (λ c κs. search needs) returns-3
+    (λ c κs. c .before .before .before .before .before .before .before .before .before .before .before .pre .laid) returns-4)

@@ -27,30 +27,32 @@ loop-holds c =
     let a = c .before .args in
     (omega arith, omega arith, ap (λ (rs : List Region). spotOf rs 0 (a .address)) (listed-whole (regionAt (a .sheet .now)) (a .regions)))
 
-region-at-requires : tie.Need-region-at-requires Inv-loop μ-loop
-region-at-requires c κs = search needs
+region-in-requires : tie.Need-region-in-requires Inv-loop μ-loop
+region-in-requires c κs =
+    let p = c .before .before .before .pre .inside in
+    omega arith
 
 holds-requires : tie.Need-holds-requires Inv-loop μ-loop
 holds-requires c κs = search needs
 
-cast-t9 : tie.Need-cast-t9 Inv-loop μ-loop
-cast-t9 c = search needs
+cast-t12 : tie.Need-cast-t12 Inv-loop μ-loop
+cast-t12 c = search needs
 
-sub-t10 : tie.Need-sub-t10 Inv-loop μ-loop
-sub-t10 c =
-    let b = holds-bounds (c .before .before .before .region-at .result) (c .before .before .before .before .before .before .before .args .address) (sym (c .before .before .holds .ensures) ∙ c .before .if1 .taken) in
+sub-t13 : tie.Need-sub-t13 Inv-loop μ-loop
+sub-t13 c =
+    let b = holds-bounds (c .before .before .before .region-in .result) (c .before .before .before .before .before .before .before .args .address) (sym (c .before .before .holds .ensures) ∙ c .before .if1 .taken) in
     omega arith
 
-add-t11 : tie.Need-add-t11 Inv-loop μ-loop
-add-t11 c =
-    let b = holds-bounds (c .before .before .before .region-at .result) (c .before .before .before .before .before .before .before .args .address) (sym (c .before .before .holds .ensures) ∙ c .before .if1 .taken) in
+add-t14 : tie.Need-add-t14 Inv-loop μ-loop
+add-t14 c =
+    let b = holds-bounds (c .before .before .before .region-in .result) (c .before .before .before .before .before .before .before .args .address) (sym (c .before .before .holds .ensures) ∙ c .before .if1 .taken) in
     omega arith
 
 returns : tie.Need-returns Inv-loop μ-loop
 returns c =
     let a = c .before .before .before .before .before .before .before .args in
     let l = c .before .before .before .before .before .loop in
-    let r = c .before .before .before .region-at in
+    let r = c .before .before .before .region-in in
     sym (l .inv .2 ∙ spot-here (regionAt (a .sheet .now)) (l .i) (a .regions) (r .result) (r .ensures) (c .before .before .before .before .loop-test .taken) (l .base) (a .address)
     (sym (c .before .before .holds .ensures) ∙ c .before .if1 .taken))
 
@@ -70,7 +72,7 @@ loop-again : tie.Need-loop-again Inv-loop μ-loop
 loop-again c =
     let a = c .before .before .before .before .before .before .before .args in
     let l = c .before .before .before .before .before .loop in
-    let r = c .before .before .before .region-at in (
+    let r = c .before .before .before .region-in in (
       omega arith,
       omega arith,
       l .inv .2 ∙ spot-past (regionAt (a .sheet .now)) (l .i) (a .regions) (r .result) (r .ensures) (c .before .before .before .before .loop-test .taken) (l .base) (a .address)
@@ -86,5 +88,5 @@ returns-2 c =
 pub spot-at-spec : {M : Type 1} → statement M
 spot-at-spec =
     tie.close
-    (tie.spec Inv-loop μ-loop loop-holds region-at-requires holds-requires cast-t9 sub-t10 add-t11 returns cast-base add-base add-i loop-less loop-again
+    (tie.spec Inv-loop μ-loop loop-holds (λ c. search needs) (λ c. search needs) (λ c. search needs) region-in-requires holds-requires cast-t12 sub-t13 add-t14 returns cast-base add-base add-i loop-less loop-again
     returns-2)

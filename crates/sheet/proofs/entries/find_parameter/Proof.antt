@@ -22,11 +22,16 @@ loop-holds c =
     let a = c .before .args in
     (omega arith, sought-whole (λ (x : Parameter). x .number) SoughtParameter.Found SoughtParameter.Missing (parameterAt (a .sheet .now) (a .regions)) 0 (a .parameters) (a .number))
 
+parameter-in-requires : tie.Need-parameter-in-requires Inv-loop μ-loop
+parameter-in-requires c κs =
+    let p = c .before .before .before .pre in
+    omega arith
+
 returns : tie.Need-returns Inv-loop μ-loop
 returns c =
     let a = c .before .before .before .before .before .before .args in
     let l = c .before .before .before .before .loop in
-    let r = c .before .before .parameter-at in
+    let r = c .before .before .parameter-in in
     sym (l .inv .1 ∙ sought-here (λ (x : Parameter). x .number) SoughtParameter.Found SoughtParameter.Missing (parameterAt (a .sheet .now) (a .regions)) (l .j) (a .parameters) (a .number) (r .result) (r .ensures) (c .before .before .before .loop-test .taken) (c .if1 .taken))
 
 loop-less : tie.Need-loop-less Inv-loop μ-loop
@@ -36,7 +41,7 @@ loop-again : tie.Need-loop-again Inv-loop μ-loop
 loop-again c =
     let a = c .before .before .before .before .before .before .args in
     let l = c .before .before .before .before .loop in
-    let r = c .before .before .parameter-at in
+    let r = c .before .before .parameter-in in
     (omega arith, l .inv .1 ∙ sought-past (λ (x : Parameter). x .number) SoughtParameter.Found SoughtParameter.Missing (parameterAt (a .sheet .now) (a .regions)) (l .j) (a .parameters) (a .number) (r .result) (r .ensures) (c .before .before .before .loop-test .taken) (c .if1 .left))
 
 returns-2 : tie.Need-returns-2 Inv-loop μ-loop
@@ -47,4 +52,5 @@ returns-2 c =
 
 pub find-parameter-spec : {M : Type 1} → statement M
 find-parameter-spec =
-    tie.close (tie.spec Inv-loop μ-loop loop-holds (λ c κs. search needs) returns (λ c. search needs) loop-less loop-again returns-2)
+    tie.close (tie.spec Inv-loop μ-loop loop-holds (λ c. search needs) (λ c. search needs) (λ c. search needs) (λ c. search needs) (λ c. search needs)
+    parameter-in-requires returns (λ c. search needs) loop-less loop-again returns-2)

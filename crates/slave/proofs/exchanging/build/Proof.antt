@@ -4,7 +4,7 @@ use native.Mathlib.Omega.{arith}
 use borrow.Author.Needs.{needs}
 use Rattle.frame.specs.Body.{replyOf}
 use Rattle.machine.specs.Outcomes.{outcomeOf}
-use Rattle.sheet.proofs.Valid.{valid-sheet, valid-laid, length-least}
+use Rattle.sheet.proofs.Valid.{valid-sheet, valid-counted, length-least}
 use Rattle.slave.proofs.Built.{built-reply}
 use Rattle.slave.proofs.Fits.{lent-fits}
 use Rattle.slave.proofs.exchanging.build.Statement.{statement}
@@ -13,7 +13,7 @@ use Rattle.slave.proofs.exchanging.build.Tie as tie
 outcome-requires : tie.Need-outcome-requires
 outcome-requires c κs =
     let a = c .before .before .before .before .before .args in
-    valid-laid (a .sheet .now) (a .layout) (valid-sheet (a .sheet .now) (a .layout) (c .before .before .before .before .before .pre .valid))
+    valid-counted (a .sheet .now) (a .layout) (valid-sheet (a .sheet .now) (a .layout) (c .before .before .before .before .before .pre .valid))
 
 head-requires : tie.Need-head-requires
 head-requires c κs =
