@@ -3,5 +3,6 @@ pub mod Sought
 pub mod Judged
 pub mod Steps
 pub mod Onward
+pub mod Told
 pub mod Walked
 pub mod Valid

@@ -4,9 +4,9 @@ use crate::records::Fault;
 use crate::records::Reading;
 ghost use mathlib.Core.Path.{_≡_};
 ghost use Prim.Native.Nat.{ℕ, _≤_, _<_, _-_};
-ghost use lib.ListN.{length};
+ghost use lib.ListN.{length, drop};
 ghost use Rattle.sheet.specs.Sound.{Standing};
-ghost use Rattle.sheet.specs.Walk.{layoutOf, tells, failedAt, endedOf, walkOf, verdictOf};
+ghost use Rattle.sheet.specs.Walk.{layoutOf, countsNumber, failedNumber, tells, failedAt, endedOf, walkOf, verdictOf};
 
 // What a valid sheet says: the link record's three fields, the counts, and the octets of memory.
 pub struct Layout {
@@ -25,13 +25,6 @@ pub enum Verdict {
     Faulty(Fault, u16),
 }
 
-// What the walk comes to: the counts of a sheet that is whole, or the first fault with its place. It is kept to eight octets, so that it is handed
-// back from record to record in a register.
-pub enum Walked {
-    Whole(u8, u8, u8, u32),
-    Failed(Fault, u16),
-}
-
 // The layout of a sheet whose records were counted.
 fn laid_out(sheet: &[u8], so: Counts) -> Layout
     ensures { λ r. ⌜ r ≡ layoutOf (now (sheet .entry)) so ⌝ }
@@ -47,67 +40,82 @@ fn laid_out(sheet: &[u8], so: Counts) -> Layout
     }
 }
 
-// The place of the first octet of `rest`, the part of the sheet that is not yet read.
-fn place(sheet: &[u8], rest: &[u8]) -> u16
-    requires { ⌜ (length (now sheet) ≤ 2048) × (length (now rest) ≤ length (now sheet)) ⌝ }
-    ensures { λ r. ⌜ r ≡ length (now (sheet .entry)) - length (now (rest .entry)) ⌝ }
+// The counts of a whole sheet as one number. The walk takes and hands back what fits in registers and nothing else, so that it is compiled into a
+// loop and takes no stack from record to record.
+fn counted(so: Counts) -> u64
+    ensures { λ r. ⌜ r ≡ countsNumber so ⌝ }
 {
-    (sheet.len() - rest.len()) as u16
+    so.regions as u64
+        + 256 * (so.parameters as u64)
+        + 65536 * (so.items as u64)
+        + 16777216 * (so.memory as u64)
+}
+
+// A fault with its place as one number: the fault's own stands above every count.
+fn failed(fault: Fault, place: usize) -> u64
+    requires { ⌜ place ≤ 65535 ⌝ }
+    ensures { λ r. ⌜ r ≡ failedNumber fault place ⌝ }
+{
+    place as u64 + 72057594037927936 * (crate::records::fault_number(fault) as u64)
 }
 
 // The fault of a reading that is no record, with its place: taken apart here, since an `else` binds nothing.
-fn fault_at(read: Reading, place: u16) -> Walked
+fn fault_at(read: Reading, place: usize) -> u64
+    requires { ⌜ place ≤ 65535 ⌝ }
     ensures { λ r. ⌜ r ≡ failedAt read place ⌝ }
 {
     match read {
-        Reading::Bad(fault) => Walked::Failed(fault, place),
-        Reading::Record(_, _) => Walked::Failed(Fault::Ended, place),
+        Reading::Bad(fault) => failed(fault, place),
+        Reading::Record(_, _) => failed(Fault::Ended, place),
     }
 }
 
-// At the end record: nothing may stand behind it.
-fn ended(sheet: &[u8], rest: &[u8], so: Counts) -> Walked
-    requires { ⌜ (length (now sheet) ≤ 2048) × (length (now rest) ≤ length (now sheet)) ⌝ }
-    ensures { λ r. ⌜ tells (now (sheet .entry)) r ≡ endedOf (now (sheet .entry)) (now (rest .entry)) so ⌝ }
+// At the end record, which stands at a place of the sheet: nothing may stand behind it.
+fn ended(sheet: &[u8], at: usize, so: Counts) -> u64
+    requires { ⌜ (length (now sheet) ≤ 2048) × (at ≤ length (now sheet)) ⌝ }
+    ensures { λ r. ⌜ tells (now (sheet .entry)) r ≡ endedOf (now (sheet .entry)) (drop at (now (sheet .entry))) so ⌝ }
 {
-    if 1 < rest.len() {
-        return Walked::Failed(Fault::Misplaced, place(sheet, rest) + 1);
+    let behind = at + 1;
+    if behind < sheet.len() {
+        return failed(Fault::Misplaced, behind);
     }
-    Walked::Whole(so.regions, so.parameters, so.items, so.memory)
+    counted(so)
 }
 
-// From one record to the next: it calls itself on the part behind the record just read.
-fn walk(sheet: &[u8], rest: &[u8], so: Counts) -> Walked
-    requires { ⌜ Standing (now sheet) (now rest) so ⌝ }
-    ensures { λ r. ⌜ ((f : ℕ) → length (now (rest .entry)) < f → tells (now (sheet .entry)) r ≡ walkOf f (now (sheet .entry)) (now (rest .entry)) so) ⌝ }
+// From one record to the next: it calls itself on the part behind the record just read, which it is told by the place where that part begins.
+fn walk(whole: &&[u8], at: usize, so: Counts) -> u64
+    requires { ⌜ (at ≤ length (now (now whole))) × Standing (now (now whole)) (drop at (now (now whole))) so ⌝ }
+    ensures { λ r. ⌜ ((f : ℕ) → length (now (now (whole .entry))) - at < f → tells (now (now (whole .entry))) r ≡ walkOf f (now (now (whole .entry))) (drop at (now (now (whole .entry)))) so) ⌝ }
 {
+    let sheet = *whole;
+    let rest = &sheet[at..];
     let read = crate::reading::read_record(sheet, rest, so);
     let Reading::Record(size, next) = read else {
-        return fault_at(read, place(sheet, rest));
+        return fault_at(read, at);
     };
     if octets::octet(rest, 0) == 0 {
-        return ended(sheet, rest, so);
+        return ended(sheet, at, so);
     }
-    let from = size as usize;
-    walk(sheet, &rest[from..], next)
+    walk(whole, at + size as usize, next)
 }
 
-// The verdict that the walk's answer tells.
-fn told(sheet: &[u8], walked: Walked) -> Verdict
+// The verdict that the walk's number tells.
+fn told(sheet: &[u8], walked: u64) -> Verdict
     ensures { λ r. ⌜ r ≡ tells (now (sheet .entry)) walked ⌝ }
 {
-    match walked {
-        Walked::Whole(regions, parameters, items, memory) => Verdict::Valid(laid_out(
+    let number = (walked / 72057594037927936) as u8;
+    if number == 0 {
+        return Verdict::Valid(laid_out(
             sheet,
             Counts {
-                regions,
-                parameters,
-                items,
-                memory,
+                regions: (walked % 256) as u8,
+                parameters: (walked / 256 % 256) as u8,
+                items: (walked / 65536 % 256) as u8,
+                memory: (walked / 16777216 % 4294967296) as u32,
             },
-        )),
-        Walked::Failed(fault, place) => Verdict::Faulty(fault, place),
+        ));
     }
+    Verdict::Faulty(crate::records::fault_of(number), (walked % 65536) as u16)
 }
 
 // The verdict on a sheet of any octets.
@@ -123,5 +131,5 @@ pub fn check(sheet: &[u8]) -> Verdict
         items: 0,
         memory: 0,
     };
-    told(sheet, walk(sheet, sheet, none))
+    told(sheet, walk(&sheet, 0, none))
 }

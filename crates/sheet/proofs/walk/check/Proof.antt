@@ -18,14 +18,23 @@ returns c = sym (pick-lt _ _ (c .if1 .taken))
 
 walk-requires : tie.Need-walk-requires
 walk-requires c κs =
-    let s = c .before .before .args .sheet .now in
-    let e : 0 ≡ length s - length s = omega arith in
-    record { short = c .if1 .left; fits = le-refl (length s); part = ap (λ (i : ℕ). drop i s) e; sound = subst (λ (i : ℕ). Sound s i none) e (start-sound s) }
+    let s = c .before .before .before .args .t1 .now in
+    let e : 0 ≡ length s - length s = omega arith in (
+      omega arith,
+      record {
+        short = c .before .if1 .left;
+        fits = le-refl (length s);
+        part = ap (λ (i : ℕ). drop i s) e;
+        sound = subst (λ (i : ℕ). Sound s i none) e (start-sound s);
+      },
+    )
 
 returns-2 : tie.Need-returns-2
 unfolding verdictOf
 returns-2 c =
-    c .told .ensures ∙ c .before .walk .ensures (suc (length (c .before .before .before .before .args .sheet .now))) (le-refl _) ∙ sym (pick-ge _ _ (c .before .before .if1 .left))
+    c .told .ensures
+    ∙ c .before .walk .ensures (suc (length (c .before .before .before .before .before .args .t1 .now))) (omega arith)
+    ∙ sym (pick-ge _ _ (c .before .before .before .if1 .left))
 
 pub check-spec : {M : Type 1} → statement M
 check-spec =
