@@ -9,7 +9,8 @@ use lib.Dec.{eqb}
 use Rattle.octets.specs.Pick.{pick}
 use Rattle.octets.proofs.Pick.{pick-no, pick-eq}
 use Rattle.sheet.specs.Faults.{numberOf, faultOf}
-use Rattle.sheet.specs.Walk.{layoutOf, countsNumber, failedNumber, countsOf, tells}
+use Rattle.sheet.specs.Handed.{countsNumber, failedNumber, countsIn, tells}
+use Rattle.sheet.specs.Walk.{layoutOf}
 use Rattle.sheet.specs.declared.records.Counts.{Counts}
 use Rattle.sheet.specs.declared.records.Fault.{Fault}
 use Rattle.sheet.specs.declared.records.Fault.the-variants.{Ended, Unknown, Misplaced, Range, Disorder, Excess, Unmapped}
@@ -54,7 +55,7 @@ digit x y z b c h l =
 
 pub tells-counts : (s : List ℕ) (so : Counts) → so .regions ≤ 255 → so .parameters ≤ 255 → so .items ≤ 255 → so .memory ≤ 4294967295
     → tells s (countsNumber so) ≡ Valid (layoutOf s so)
-unfolding tells countsNumber countsOf
+unfolding tells countsNumber countsIn
 tells-counts s so few-r few-p few-k room =
     let r = so .regions in
     let p = so .parameters in

@@ -8,7 +8,8 @@ use lib.Seq.{take-all, drop-drop}
 use Rattle.octets.proofs.Pick.{pick-eq, pick-ne}
 use Rattle.sheet.specs.Reading.{recordOf}
 use Rattle.sheet.specs.Sound.{Sound, Counted, Standing}
-use Rattle.sheet.specs.Walk.{placeOf, endedOf, onward, walkOf, tells, failedAt}
+use Rattle.sheet.specs.Handed.{tells, failedAt}
+use Rattle.sheet.specs.Walk.{placeOf, endedOf, onward, walkOf}
 use Rattle.sheet.specs.declared.records.Counts.{Counts}
 use Rattle.sheet.specs.declared.records.Fault.{Fault}
 use Rattle.sheet.specs.declared.records.Reading.{Reading}

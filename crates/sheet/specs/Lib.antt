@@ -5,4 +5,5 @@ pub mod Kinds
 pub mod Judging
 pub mod Reading
 pub mod Walk
+pub mod Handed
 pub mod Sound

@@ -1,13 +1,11 @@
 -- The verdict on a whole sheet. Document 01: "The sheet is read record by record from its front, and the first fault is told."
-use Prim.Native.Nat.{ℕ, zero, suc, _+_, _-_, _*_, _/_, _%_}
+use Prim.Native.Nat.{ℕ, zero, suc, _+_, _-_}
 use mathlib.Core.List.{List}
 use lib.Dec.{eqb, ltb}
 use lib.ListN.{length, getD, drop}
 use Rattle.octets.specs.Pick.{pick}
-use Rattle.sheet.specs.Faults.{numberOf, faultOf}
 use Rattle.sheet.specs.Reading.{recordOf}
 use Rattle.sheet.specs.declared.records.Counts.{Counts}
-use Rattle.sheet.specs.declared.records.Fault.{Fault}
 use Rattle.sheet.specs.declared.records.Fault.the-variants.{Ended, Misplaced}
 use Rattle.sheet.specs.declared.records.Reading.{Reading}
 use Rattle.sheet.specs.declared.records.Reading.the-variants.{Record, Bad}
@@ -54,27 +52,3 @@ walkOf (suc f) s rest so =
 -- "A sheet over 2,048 octets is fault 11 at place 0."
 unfoldable pub verdictOf : List ℕ → Verdict
 verdictOf s = pick (ltb 2048 (length s)) (Faulty Ended 0) (walkOf (suc (length s)) s s none)
-
--- the walk's answer is one number: for a whole sheet its counts, each in room of its own
-unfoldable pub countsNumber : Counts → ℕ
-countsNumber so = so .regions + 256 * so .parameters + 65536 * so .items + 16777216 * so .memory
-
--- and for a fault its place, with the fault's number above every count
-unfoldable pub failedNumber : Fault → ℕ → ℕ
-failedNumber fault place = place + 72057594037927936 * numberOf fault
-
--- the counts that such a number has
-unfoldable pub countsOf : ℕ → Counts
-countsOf n = record { regions = n % 256; parameters = n / 256 % 256; items = n / 65536 % 256; memory = n / 16777216 % 4294967296 }
-
--- what a number of either kind tells of the sheet
-unfoldable pub tells : List ℕ → ℕ → Verdict
-tells s n =
-    pick (eqb (n / 72057594037927936) 0)
-    (Valid (layoutOf s (countsOf n)))
-    (Faulty (faultOf (n / 72057594037927936)) (n % 65536))
-
--- the fault of a reading, with its place: asked only of a reading that is no record
-unfoldable pub failedAt : Reading → ℕ → ℕ
-failedAt (Bad fault) place = failedNumber fault place
-failedAt (Record size next) place = failedNumber Ended place

@@ -6,7 +6,8 @@ ghost use mathlib.Core.Path.{_≡_};
 ghost use Prim.Native.Nat.{ℕ, _≤_, _<_, _-_};
 ghost use lib.ListN.{length, drop};
 ghost use Rattle.sheet.specs.Sound.{Standing};
-ghost use Rattle.sheet.specs.Walk.{layoutOf, countsNumber, failedNumber, tells, failedAt, endedOf, walkOf, verdictOf};
+ghost use Rattle.sheet.specs.Handed.{countsNumber, failedNumber, tells, failedAt};
+ghost use Rattle.sheet.specs.Walk.{layoutOf, endedOf, walkOf, verdictOf};
 
 // What a valid sheet says: the link record's three fields, the counts, and the octets of memory.
 pub struct Layout {
@@ -51,7 +52,7 @@ fn counted(so: Counts) -> u64
         + 16777216 * (so.memory as u64)
 }
 
-// A fault with its place as one number: the fault's own stands above every count.
+// A fault with its place as one number: the fault's own stands above every count, at 2^56.
 fn failed(fault: Fault, place: usize) -> u64
     requires { ⌜ place ≤ 65535 ⌝ }
     ensures { λ r. ⌜ r ≡ failedNumber fault place ⌝ }

@@ -6,7 +6,7 @@ use borrow.Author.Needs.{needs}
 use borrow.Fn.Kinds.{In}
 use borrow.Fn.PlainCycle.{Measures, is, falls, and}
 use lib.ListN.{length}
-use Rattle.sheet.specs.Walk.{tells}
+use Rattle.sheet.specs.Handed.{tells}
 use Rattle.sheet.proofs.Walked.{counted-at, walked-fault, walked-end, inside-on, asked-on, walked-on}
 use Rattle.octets.proofs.octet.Reads as octet-reads
 use Rattle.sheet.proofs.reading.read_record.Reads as read-record-reads

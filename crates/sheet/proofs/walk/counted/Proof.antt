@@ -1,7 +1,7 @@
 -- `sheet::walk::counted` meets its contract: each count in its room.
 use mathlib.Core.Path.{refl}
 use borrow.Author.Needs.{needs}
-use Rattle.sheet.specs.Walk.{countsNumber}
+use Rattle.sheet.specs.Handed.{countsNumber}
 use Rattle.sheet.proofs.walk.counted.Statement.{statement}
 use Rattle.sheet.proofs.walk.counted.Tie as tie
 

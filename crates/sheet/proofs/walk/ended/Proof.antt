@@ -5,7 +5,8 @@ use native.Mathlib.Omega.{arith}
 use borrow.Author.Needs.{needs}
 use lib.ListN.{length, drop, length-drop}
 use Rattle.octets.proofs.Pick.{pick-lt, pick-ge}
-use Rattle.sheet.specs.Walk.{tells, endedOf}
+use Rattle.sheet.specs.Handed.{tells}
+use Rattle.sheet.specs.Walk.{endedOf}
 use Rattle.sheet.specs.declared.records.Fault.the-variants.{Misplaced}
 use Rattle.sheet.specs.declared.walk.Verdict.the-variants.{Faulty}
 use Rattle.sheet.proofs.Told.{tells-failed, tells-counts}

@@ -1,6 +1,6 @@
 -- `sheet::walk::failed` meets its contract: the place, and the fault's number above it.
 use borrow.Author.Needs.{needs}
-use Rattle.sheet.specs.Walk.{failedNumber}
+use Rattle.sheet.specs.Handed.{failedNumber}
 use Rattle.sheet.proofs.walk.failed.Statement.{statement}
 use Rattle.sheet.proofs.walk.failed.Tie as tie
 

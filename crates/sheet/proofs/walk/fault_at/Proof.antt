@@ -1,7 +1,7 @@
 -- `sheet::walk::fault_at` meets its contract, case by case.
 use mathlib.Core.Path.{_∙_}
 use borrow.Author.Needs.{needs}
-use Rattle.sheet.specs.Walk.{failedAt}
+use Rattle.sheet.specs.Handed.{failedAt}
 use Rattle.sheet.proofs.walk.fault_at.Statement.{statement}
 use Rattle.sheet.proofs.walk.fault_at.Tie as tie
 

@@ -3,14 +3,14 @@ use Prim.Native.Nat.{_%_}
 use mathlib.Core.Path.{sym, ap, _∙_}
 use borrow.Author.Needs.{needs}
 use Rattle.octets.proofs.Pick.{pick-eq, pick-ne}
-use Rattle.sheet.specs.Walk.{tells, countsOf}
+use Rattle.sheet.specs.Handed.{tells, countsIn}
 use Rattle.sheet.specs.declared.records.Fault.{Fault}
 use Rattle.sheet.specs.declared.walk.Verdict.the-variants.{Valid, Faulty}
 use Rattle.sheet.proofs.walk.told.Statement.{statement}
 use Rattle.sheet.proofs.walk.told.Tie as tie
 
 returns : tie.Need-returns
-unfolding tells countsOf
+unfolding tells countsIn
 returns c = ap Valid (c .laid-out .ensures) ∙ sym (pick-eq _ _ (c .before .if1 .taken))
 
 returns-2 : tie.Need-returns-2
