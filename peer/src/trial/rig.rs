@@ -60,7 +60,8 @@ impl Side {
         }
     }
 
-    fn run(&mut self, call: Call, inputs: &Inputs) {
+    /// A long trace takes the place of the guarded one, and is not copied.
+    fn run(&mut self, call: Call, inputs: &Inputs, long: Option<&[u8]>) {
         self.sheet.load(&inputs.sheet);
         self.state.load(&inputs.state);
         self.memory.load(&inputs.memory);
@@ -77,7 +78,10 @@ impl Side {
             Call::Reset => (self.engine.reset)(sheet, state),
             Call::Enable => (self.engine.enable)(sheet, state),
             Call::Exchange => (self.engine.exchange)(sheet, state, memory, command, reply),
-            Call::Replay => (self.engine.replay)(sheet, state, memory, self.trace.lend()),
+            Call::Replay => {
+                let trace = long.unwrap_or(self.trace.lend());
+                (self.engine.replay)(sheet, state, memory, trace)
+            }
         });
     }
 
@@ -133,10 +137,19 @@ impl Rig {
 
     /// Runs both engines; on agreement state and memory are carried on.
     pub fn call(&mut self, call: Call) -> Result<u64, Box<Difference>> {
+        self.call_with(call, None)
+    }
+
+    /// A replay of a trace that is too long to be copied.
+    pub fn replay_long(&mut self, trace: &[u8]) -> Result<u64, Box<Difference>> {
+        self.call_with(Call::Replay, Some(trace))
+    }
+
+    fn call_with(&mut self, call: Call, long: Option<&[u8]>) -> Result<u64, Box<Difference>> {
         self.calling = call;
-        self.ours.run(call, &self.inputs);
+        self.ours.run(call, &self.inputs, long);
         AT_WORK.store(self, Ordering::Relaxed);
-        self.theirs.run(call, &self.inputs);
+        self.theirs.run(call, &self.inputs, long);
         AT_WORK.store(null_mut(), Ordering::Relaxed);
         if let Some(what) = self.disagreement() {
             return Err(self.difference(what));

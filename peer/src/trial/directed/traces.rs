@@ -11,6 +11,9 @@ use crate::trial::states::{plain_state, ASYNC, DISABLED};
 
 const DIFFERENT: u64 = 34;
 const CUT: u64 = 33;
+const KIND_UNKNOWN: u64 = 31;
+const LONG: u64 = 35;
+const LONGEST: usize = (1 << 30) - 1;
 /// Octets of a record before its reply: the kind and, for each L, the command.
 const KIND: usize = 1;
 
@@ -32,6 +35,7 @@ pub fn run(rig: &mut Rig) -> Outcome {
         change_kinds(rig, &recorder, usize::from(length))?;
         rig.origin = "directed: refusals of a replay".to_string();
         refusals(rig, &recorder, &plan)?;
+        lengths_at_the_limit(rig, &recorder, &plan)?;
     }
     Ok(())
 }
@@ -158,5 +162,26 @@ fn refusals(rig: &mut Rig, recorder: &Recorder, plan: &Plan) -> Outcome {
         rig.call(Call::Replay)?;
     }
     rig.inputs.sheet = plan.octets();
+    Ok(())
+}
+
+/// Zeros, the longest trace and one more: nobody looks further than the first.
+/// The refusals before come first there too.
+fn lengths_at_the_limit(rig: &mut Rig, recorder: &Recorder, plan: &Plan) -> Outcome {
+    let zeros = vec![0; LONGEST + 1];
+    for (length, answer) in [(LONGEST, KIND_UNKNOWN), (LONGEST + 1, LONG)] {
+        rig.origin = format!("directed: a trace of {length} zeros");
+        recorder.lend_to(&mut rig.inputs);
+        rig.inputs.trace.clear();
+        if rig.replay_long(&zeros[..length])? != answer {
+            return Err(rig.difference("the answer expected"));
+        }
+        rig.inputs.memory.push(0);
+        rig.replay_long(&zeros[..length])?;
+        recorder.lend_to(&mut rig.inputs);
+        rig.inputs.trace.clear();
+        rig.inputs.state = plain_state(plan.pdu_length, DISABLED);
+        rig.replay_long(&zeros[..length])?;
+    }
     Ok(())
 }
