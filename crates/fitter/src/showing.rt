@@ -13,9 +13,9 @@ fn print_mark(octet: usize) {
 // The replies one below the other.
 fn print_replies(ours: &[u8], reply: &[u8], octet: usize) {
     words::print(b"ours:  ");
-    station::printing::print_hex(ours);
+    hex::print_hex(ours);
     words::print(b"trace: ");
-    station::printing::print_hex(reply);
+    hex::print_hex(reply);
     print_mark(octet);
 }
 

@@ -56,7 +56,7 @@ pub fn print_refusal(number: u8, place: u64) {
 
 // An octet in hex.
 fn print_octet(octet: u8) {
-    station::printing::write_hex(&[octet]);
+    hex::write_hex(&[octet]);
 }
 
 // A number of octets.

@@ -1,7 +1,5 @@
 // The bench station: a slave on a sheet of a file and on commands of standard input. It starts with reset, enable and zero memory, and prints
 // each reply as one line of upper-case hex; a last piece shorter than L prints CUT; a refused sheet prints SHEET, number and place.
-pub mod printing; // printing.rt: lines of hex and of words
-
 use libc::STDIN_FILENO;
 use libc::STDOUT_FILENO;
 use sheet::walk::Layout;
@@ -34,7 +32,7 @@ fn turn(
         return false;
     }
     slave::exchanging::exchange(sheet, state, memory, command, reply);
-    printing::print_hex(reply)
+    hex::print_hex(reply)
 }
 
 // Commands to the end of the input; a proved loop has to end, so it counts down from a number that no run uses up.

@@ -1,4 +1,4 @@
-// Octets as a line of upper-case hex.
+// Octets as upper-case hex on the standard output, for the programs.
 use libc::STDOUT_FILENO;
 ghost use Prim.Native.Nat.{_≤_};
 ghost use lib.ListN.{length};

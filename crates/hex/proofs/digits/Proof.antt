@@ -1,11 +1,11 @@
--- `station::printing::digits` meets its contract: two digits for each octet passed, within the line.
+-- `hex::digits` meets its contract: two digits for each octet passed, within the line.
 use Prim.Native.Nat.{_≤_, _-_}
 use mathlib.Core.Path.{_≡_, refl}
 use native.Mathlib.Omega.{arith}
 use borrow.Author.Needs.{needs}
 use lib.ListN.{length, length-set}
-use Rattle.station.proofs.printing.digits.Statement.{statement}
-use Rattle.station.proofs.printing.digits.Tie as tie
+use Rattle.hex.proofs.digits.Statement.{statement}
+use Rattle.hex.proofs.digits.Tie as tie
 
 abbrev Inv-loop : tie.InvT-loop
 Inv-loop octets line₀ i₀ n₀ line i n = (i ≤ length octets) × (n ≤ length line₀) × (length line ≡ length line₀)

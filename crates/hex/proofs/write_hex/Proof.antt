@@ -1,9 +1,9 @@
--- `station::printing::write_hex` is safe: the digits stand within the line.
+-- `hex::write_hex` is safe: the digits stand within the line.
 use mathlib.Core.Path.{sym}
 use borrow.Author.Needs.{needs}
 use lib.Seq.{length-take-le}
-use Rattle.station.proofs.printing.write_hex.Statement.{statement}
-use Rattle.station.proofs.printing.write_hex.Tie as tie
+use Rattle.hex.proofs.write_hex.Statement.{statement}
+use Rattle.hex.proofs.write_hex.Tie as tie
 
 slice-aggregate-write-all : tie.Need-slice-aggregate-write-all
 slice-aggregate-write-all c = sym (length-take-le (c .before .before .digits .result) (c .before .before .digits .last .1 .0) (c .before .before .digits .ensures))
