@@ -6,11 +6,13 @@ use machine::words::Outcome;
 use sheet::walk::Layout;
 use sheet::walk::Verdict;
 ghost use mathlib.Core.Path.{_≡_};
-ghost use Rattle.slave.specs.Answers.{told};
+ghost use Prim.Native.Nat.{_≤_};
+ghost use lib.ListN.{length};
 ghost use Rattle.frame.specs.Body.{replyOf};
 ghost use Rattle.frame.specs.Fields.{commandOf};
 ghost use Rattle.machine.specs.Outcomes.{outcomeOf};
 ghost use Rattle.slave.specs.Exchange.{left, refusalOf, exchanged, exchangeOf, Lent, Ready};
+ghost use Rattle.slave.specs.Wanted.{performed, performedOf};
 
 // The first refusal behind the sheet's and the state's, by lengths and link; 0 where there is none.
 fn refusal(layout: Layout, st: LinkState, memory: usize, command: usize, reply: usize) -> u8
@@ -32,7 +34,7 @@ fn refusal(layout: Layout, st: LinkState, memory: usize, command: usize, reply: 
 }
 
 // The whole reply to a command, built over lent octets, and what the command comes to; memory and state stay.
-pub fn build(
+fn build(
     sheet: &[u8],
     layout: Layout,
     st: LinkState,
@@ -52,24 +54,31 @@ pub fn build(
     outcome
 }
 
-// The outcome of a command, written into reply, memory and state.
-fn perform(
+// The outcome of a command: the whole reply, and, where it begins with what is wanted of it, memory and state. An exchange wants nothing of it, a replay
+// the trace's reply.
+pub fn perform(
     sheet: &[u8],
     layout: Layout,
     st: LinkState,
     state: &mut [u8],
     memory: &mut [u8],
     command: &[u8],
+    wanted: &[u8],
     reply: &mut [u8],
-)
-    requires { ⌜ Ready (now sheet) (now state) (now memory) (now command) (now reply) layout st ⌝ }
-    ensures { λ _. ⌜ left (told 0 0) (now (state .exit)) (now (memory .exit)) (now (reply .exit)) ≡ exchanged (now (sheet .entry)) layout st (now (memory .entry)) (now (command .entry)) ⌝ }
+) -> u8
+    requires { ⌜ Ready (now sheet) (now state) (now memory) (now command) (now reply) layout st × (length (now wanted) ≤ layout .l) ⌝ }
+    ensures { λ d. ⌜ performed d (now (state .exit)) (now (memory .exit)) (now (reply .exit)) ≡ performedOf (now (wanted .entry)) (now (state .entry)) (now (memory .entry)) (exchanged (now (sheet .entry)) layout st (now (memory .entry)) (now (command .entry))) ⌝ }
 {
     let outcome = build(sheet, layout, st, memory, command, reply);
+    let d = crate::wanted::differs(reply, wanted);
+    if (d as usize) < wanted.len() {
+        return d;
+    }
     let effect = outcome.effect;
     let next = outcome.next;
     frame::body::store(effect, command, memory);
     link::stored::write(state, next);
+    d
 }
 
 // One exchange on lent octets of any lengths and contents.
@@ -94,6 +103,15 @@ pub fn exchange(
     if refused != 0 {
         return crate::answers::plain(refused);
     }
-    perform(sheet, layout, st, state, memory, command, reply);
+    perform(
+        sheet,
+        layout,
+        st,
+        state,
+        memory,
+        command,
+        &command[..0],
+        reply,
+    );
     crate::answers::plain(crate::answers::DONE)
 }

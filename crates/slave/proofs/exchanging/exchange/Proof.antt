@@ -1,11 +1,13 @@
 -- `slave::exchanging::exchange` meets its contract: every refusal in its order, and then the outcome.
 use Prim.Native.Nat.{ℕ}
 use mathlib.Core.Path.{sym, ap, _∙_}
+use native.Mathlib.Omega.{arith}
 use borrow.Author.Needs.{needs}
 use Rattle.octets.proofs.Pick.{pick-differ, pick-same}
 use Rattle.slave.specs.Answers.{told, sheetAnswer}
-use Rattle.slave.specs.Exchange.{left, exchangeOf}
+use Rattle.slave.specs.Exchange.{left, exchanged, exchangeOf}
 use Rattle.slave.specs.declared.answers.Answer.{Answer}
+use Rattle.slave.proofs.Differs.{wanted-nothing}
 use Rattle.slave.proofs.Order.{on-faulty, on-valid, on-invalid, on-state, no-refusal}
 use Rattle.slave.proofs.exchanging.exchange.Statement.{statement}
 use Rattle.slave.proofs.exchanging.exchange.Tie as tie
@@ -45,27 +47,31 @@ returns-3 c =
 
 perform-requires : tie.Need-perform-requires
 perform-requires c κs =
-    let q = no-refusal _ _ _ _ _ (sym (c .before .before .before .before .refusal .ensures) ∙ c .before .before .before .if1 .left) in
-    record {
-      valid = sym (c .before .before .before .before .before .before .before .before .before .before .before .before .before .check .ensures) ∙ c .before .before .before .before .before .before .before .before .before .before .before .verdict .given .1;
-      held = sym (c .before .before .before .before .before .before .before .before .read .ensures) ∙ c .before .before .before .before .before .before .held .given .1;
-      whole = q .0;
-      asked = q .1;
-      lent = q .2;
-    }
+    let q = no-refusal _ _ _ _ _ (sym (c .before .before .before .before .before .refusal .ensures) ∙ c .before .before .before .before .if1 .left) in (
+      record {
+        valid = sym (c .before .before .before .before .before .before .before .before .before .before .before .before .before .before .check .ensures) ∙ c .before .before .before .before .before .before .before .before .before .before .before .before .verdict .given .1;
+        held = sym (c .before .before .before .before .before .before .before .before .before .read .ensures) ∙ c .before .before .before .before .before .before .before .held .given .1;
+        whole = q .0;
+        asked = q .1;
+        lent = q .2;
+      },
+      omega arith,
+    )
 
 returns-4 : tie.Need-returns-4
-unfolding exchangeOf
+unfolding exchangeOf exchanged
 returns-4 c =
-    ap (λ (x : Answer). left x (c .before .before .before .before .before .before .before .perform .last .1 .1 .1 .0) (c .before .before .before .before .before .before .before .perform .last .1 .1 .1 .1 .0) (c .before .before .before .before .before .before .before .perform .last .1 .1 .1 .1 .1 .1 .0)) (c .plain3 .ensures)
-    ∙ c .before .before .before .before .before .before .before .perform .ensures
+    let a = c .before .before .before .before .before .before .before .before .before .before .before .before .before .before .before .before .before .before .before .before .before .before .before .before .before .before .before .before .args in
+    let e = c .before .before .before .before .before .before .before .perform .ensures ∙ wanted-nothing (a .state .now) (a .memory .now) _ in
+    (λ i. left (c .plain3 .ensures i) (e i .state) (e i .memory) (e i .reply))
     ∙ sym
-    (on-valid _ _ _ _ (sym (c .before .before .before .before .before .before .before .before .before .before .before .before .before .before .before .before .before .before .before .before .before .check .ensures) ∙ c .before .before .before .before .before .before .before .before .before .before .before .before .before .before .before .before .before .before .before .verdict .given .1)
-    ∙ on-state _ _ _ _ (sym (c .before .before .before .before .before .before .before .before .before .before .before .before .before .before .before .before .read .ensures) ∙ c .before .before .before .before .before .before .before .before .before .before .before .before .before .before .held .given .1)
-    ∙ pick-same _ _ (sym (c .before .before .before .before .before .before .before .before .before .before .before .before .refusal .ensures) ∙ c .before .before .before .before .before .before .before .before .before .before .before .if1 .left))
+    (on-valid _ _ _ _ (sym (c .before .before .before .before .before .before .before .before .before .before .before .before .before .before .before .before .before .before .before .before .before .before .check .ensures) ∙ c .before .before .before .before .before .before .before .before .before .before .before .before .before .before .before .before .before .before .before .before .verdict .given .1)
+    ∙ on-state _ _ _ _ (sym (c .before .before .before .before .before .before .before .before .before .before .before .before .before .before .before .before .before .read .ensures) ∙ c .before .before .before .before .before .before .before .before .before .before .before .before .before .before .before .held .given .1)
+    ∙ pick-same _ _ (sym (c .before .before .before .before .before .before .before .before .before .before .before .before .before .refusal .ensures) ∙ c .before .before .before .before .before .before .before .before .before .before .before .before .if1 .left))
 
 pub exchange-spec : {M : Type 1} → statement M
 exchange-spec =
     tie.close (tie.spec (λ c κs. search needs) (λ c. search needs) (λ c. search needs) (λ c κs. search needs) returns (λ c κs. search needs)
     (λ c. search needs) (λ c. search needs) (λ c κs. search needs) (λ c. search needs) returns-2 (λ c κs. search needs) (λ c κs. search needs)
-    (λ c. search needs) returns-3 perform-requires (λ c κs. search needs) (λ c. search needs) (λ c. search needs) (λ c. search needs) returns-4)
+    (λ c. search needs) returns-3 (λ c. search needs) perform-requires (λ c κs. search needs) (λ c. search needs) (λ c. search needs)
+    (λ c. search needs) returns-4)

@@ -1,42 +1,69 @@
--- `slave::exchanging::perform` meets its contract: the reply is built, the write's octets enter the memory, the next state the record.
-use mathlib.Core.Path.{sym, ap, _∙_}
+-- `slave::exchanging::perform` meets its contract: the reply is built, and where it begins with what is wanted, the write's octets enter the memory, the
+-- next state the record.
+use Prim.Native.Nat.{ℕ}
+use mathlib.Core.List.{List}
+use mathlib.Core.Path.{_≡_, sym, ap, _∙_}
+use native.Mathlib.Omega.{arith}
 use borrow.Author.Needs.{needs}
 use lib.ListN.{length}
+use Rattle.octets.proofs.Pick.{pick-eq, pick-ne}
 use Rattle.frame.specs.Body.{memoryAfter}
 use Rattle.frame.specs.Fields.{commandOf}
 use Rattle.link.specs.Stored.{octetsOf}
 use Rattle.link.proofs.Back.{written, read-valid}
 use Rattle.machine.specs.declared.words.Outcome.{Outcome}
-use Rattle.slave.specs.Answers.{told}
-use Rattle.slave.specs.Exchange.{left, exchanged}
+use Rattle.sheet.proofs.Valid.{valid-sheet, length-most}
+use Rattle.slave.specs.Exchange.{exchanged}
+use Rattle.slave.specs.Wanted.{differsAt, performed, performedOf}
+use Rattle.slave.proofs.Differs.{differs-most}
 use Rattle.slave.proofs.Fits.{lent-fits, ready-lent, fits-stored}
 use Rattle.slave.proofs.exchanging.perform.Statement.{statement}
 use Rattle.slave.proofs.exchanging.perform.Tie as tie
 
-build-requires : tie.Need-build-requires
-build-requires c κs = ready-lent _ _ _ _ _ _ _ (c .before .before .before .before .before .before .before .pre)
+differs-requires : tie.Need-differs-requires
+differs-requires c κs =
+    let a = c .before .before .before .before .before .before .before .before .before .before .before .before .args in
+    let p = c .before .before .before .before .before .before .before .before .before .before .before .before .pre in
+    let m = length-most (a .sheet .now) (a .layout) (valid-sheet (a .sheet .now) (a .layout) (p .0 .valid)) in
+    let e = c .before .before .before .build .kept .1 .1 .1 .1 .1 .0 ∙ p .0 .lent in
+    (omega (arith, p .1), omega arith)
+
+returns : tie.Need-returns
+unfolding performedOf exchanged
+returns c =
+    let a = c .before .before .before .before .before .before .before .before .before .before .before .before .before .before .args in
+    let d = c .before .differs .result in
+    let reply = c .before .before .before .before .before .build .ensures .1 in
+    let e = c .before .differs .ensures ∙ ap (λ (x : List ℕ). differsAt x (a .wanted .now)) reply in
+    (λ i. performed (e i) (a .state .now) (a .memory .now) (reply i))
+    ∙ sym (pick-ne _ _ (λ z. let k : d ≡ length (a .wanted .now) = e ∙ z in let w : ⊥ = omega arith in w))
 
 store-requires : tie.Need-store-requires
 store-requires c κs =
-    let a = c .before .before .before .before .before .before .before .before .before .before .before .before .args in
-    let p = c .before .before .before .before .before .before .before .before .before .before .before .before .pre in
-    let o = c .before .before .before .before .build .result in
+    let a = c .before .before .before .before .before .before .before .before .before .before .before .before .before .before .before .before .args in
+    let p = c .before .before .before .before .before .before .before .before .before .before .before .before .before .before .before .before .pre .0 in
+    let o = c .before .before .before .before .before .before .before .build .result in
     let f = lent-fits (a .sheet .now) (a .memory .now) (a .command .now) (a .reply .now) (a .layout) (a .st) (ready-lent _ _ _ _ _ _ _ p)
-    (commandOf (a .command .now)) o (a .command .now) (c .before .before .before .before .build .ensures .0) (p .asked ∙ sym (p .lent)) in
+    (commandOf (a .command .now)) o (a .command .now) (c .before .before .before .before .before .before .before .build .ensures .0) (p .asked ∙ sym (p .lent)) in
     fits-stored (o .effect) (length (a .command .now)) (length (a .memory .now)) (length (a .sheet .now)) (f .1)
 
-returns : tie.Need-returns
-unfolding exchanged
-returns c =
-    let a = c .before .before .before .before .before .before .before .before .before .before .before .before .before .before .before .before .before .before .before .args in
-    let p = c .before .before .before .before .before .before .before .before .before .before .before .before .before .before .before .before .before .before .before .pre in
-    let o = c .before .before .before .before .before .before .before .before .before .before .before .build .result in
-    let e = c .before .before .before .before .before .before .before .before .before .before .before .build .ensures .0 in
-    let state = c .before .before .write .ensures ∙ written (a .state .now) (o .next) (read-valid _ _ _ (p .held) .0) ∙ ap (λ (x : Outcome). octetsOf (x .next)) e in
-    let memory = c .before .before .before .before .before .before .store .ensures ∙ ap (λ (x : Outcome). memoryAfter (x .effect) (a .command .now) (a .memory .now)) e in
-    let reply = c .before .before .before .before .before .before .before .before .before .before .before .build .ensures .1 in
-    λ i. left (told 0 0) (state i) (memory i) (reply i)
+returns-2 : tie.Need-returns-2
+unfolding performedOf exchanged
+returns-2 c =
+    let a = c .before .before .before .before .before .before .before .before .before .before .before .before .before .before .before .before .before .before .before .before .before .before .before .args in
+    let o = c .before .before .before .before .before .before .before .before .before .before .before .before .before .before .build .result in
+    let q = c .before .before .before .before .before .before .before .before .before .before .before .before .before .before .build .ensures .0 in
+    let reply = c .before .before .before .before .before .before .before .before .before .before .before .before .before .before .build .ensures .1 in
+    let d = c .before .before .before .before .before .before .before .before .before .before .differs .result in
+    let found = c .before .before .before .before .before .before .before .before .before .before .differs .ensures in
+    let most = differs-most (c .before .before .before .before .before .before .before .before .before .before .before .before .before .before .build .last .1 .1 .1 .1 .1 .0) (a .wanted .now) in
+    let all : d ≡ length (a .wanted .now) = omega (arith, found, c .before .before .before .before .before .before .before .before .before .if1 .left) in
+    let e = found ∙ ap (λ (x : List ℕ). differsAt x (a .wanted .now)) reply in
+    let state = c .before .before .write .ensures ∙ written (a .state .now) (o .next) (read-valid _ _ _ (c .before .before .before .before .before .before .before .before .before .before .before .before .before .before .before .before .before .before .before .before .before .before .before .pre .0 .held) .0) ∙ ap (λ (x : Outcome). octetsOf (x .next)) q in
+    let memory = c .before .before .before .before .before .before .store .ensures ∙ ap (λ (x : Outcome). memoryAfter (x .effect) (a .command .now) (a .memory .now)) q in
+    (λ i. performed (e i) (state i) (memory i) (reply i)) ∙ sym (pick-eq _ _ (sym e ∙ all))
 
 pub perform-spec : {M : Type 1} → statement M
 perform-spec =
-    tie.close (tie.spec build-requires store-requires (λ c κs. search needs) (λ c. search needs) (λ c. search needs) (λ c. search needs) returns)
+    tie.close (tie.spec (λ c κs. search needs) differs-requires (λ c. search needs) (λ c. search needs) (λ c. search needs) returns store-requires
+    (λ c κs. search needs) (λ c. search needs) (λ c. search needs) (λ c. search needs) returns-2)

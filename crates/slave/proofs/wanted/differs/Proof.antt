@@ -1,0 +1,13 @@
+-- `slave::wanted::differs` meets its contract: a reply that begins with what is wanted differs at its end.
+use mathlib.Core.Path.{sym, _∙_}
+use borrow.Author.Needs.{needs}
+use borrow.Author.Tests.{eqb-true}
+use Rattle.slave.proofs.wanted.differs.Statement.{statement}
+use Rattle.slave.proofs.wanted.differs.Tie as tie
+
+returns : tie.Need-returns
+returns c = sym (eqb-true _ _ (sym (c .before .begins .ensures) ∙ c .if1 .taken))
+
+pub differs-spec : {M : Type 1} → statement M
+differs-spec =
+    tie.close (tie.spec (λ c κs. search needs) (λ c. search needs) returns (λ c κs. search needs) (λ c. search needs))
