@@ -1,6 +1,5 @@
 -- The laws of the replay.
 pub mod Faults
 pub mod Forms
-pub mod Differs
 pub mod Steps
 pub mod Plays

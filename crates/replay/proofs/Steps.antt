@@ -1,18 +1,20 @@
 -- What an exchange with a record's two parts is, case by case.
 --     cut-part         a part that is lent is the record's
 --     part-whole       and as long as asked
+--     step-performed   a command of which a record's reply is wanted is the record's step
 --     step-refused     an exchange that is refused leaves all, and differs nowhere
 --     is-invalid, is-disabled, is-exchanged     the cases
 use mathlib.Core.Bool.{not}
 use mathlib.Core.List.{List}
-use mathlib.Core.Path.{_≡_, refl, sym, ap, ap₂, subst, _∙_}
+use mathlib.Core.Path.{_≡_, refl, sym, ap, ap₂, _∙_}
 use Prim.Native.Nat.{ℕ, _+_, _-_, _≤_}
 use native.Mathlib.Omega.{arith}
 use borrow.Author.Tests.{eq-eqb, ne-eqb}
+use lib.Dec.{eqb}
 use lib.ListN.{length, take, drop, length-take, length-drop}
 use lib.Seq.{drop-drop}
 use Rattle.octets.specs.Parts.{part}
-use Rattle.octets.proofs.Pick.{pick-yes, pick-no, pick-differ, pick-same}
+use Rattle.octets.proofs.Pick.{pick-yes, pick-no, pick-differ, pick-same, pick-cases}
 use Rattle.link.specs.Stored.{stateOf}
 use Rattle.link.specs.declared.state.LinkState.{LinkState}
 use Rattle.link.specs.declared.stored.Stored.the-variants.{State, Invalid}
@@ -21,9 +23,10 @@ use Rattle.sheet.specs.declared.walk.Layout.{Layout}
 use Rattle.sheet.specs.declared.walk.Verdict.the-variants.{Valid}
 use Rattle.slave.specs.Answers.{told}
 use Rattle.slave.specs.Exchange.{Left, left, refusalOf, exchanged, exchangeOf}
+use Rattle.slave.specs.Wanted.{differsAt, Performed, performed, performedOf}
+use Rattle.slave.proofs.Differs.{differs-self}
 use Rattle.slave.proofs.Order.{on-valid, on-invalid, on-state}
-use Rattle.replay.specs.Replay.{differsAt, stepped, steppedOf}
-use Rattle.replay.proofs.Differs.{differs-self}
+use Rattle.replay.specs.Replay.{stepped, steppedOf}
 
 module _ (trace : List ℕ) (at from n : ℕ) where
   -- the part that is lent, from a place of the trace up to another
@@ -36,6 +39,17 @@ module _ (trace : List ℕ) (at from n : ℕ) where
   pub part-whole : at + from + n ≤ length trace → length (part (drop at trace) from n) ≡ n
   unfolding part
   part-whole h = simp (length-take, length-drop) (omega arith)
+
+-- where all of a record's reply is wanted, what is performed is stepped
+pub step-performed : (l : ℕ) (state memory wanted : List ℕ) (x : Left) → length wanted ≡ l → {d : ℕ} {s m r : List ℕ}
+    → performed d s m r ≡ performedOf wanted state memory x → stepped d s m ≡ steppedOf l state memory wanted x
+unfolding performedOf steppedOf
+step-performed l state memory wanted x e p =
+    ap (λ (y : Performed). stepped (y .at) (y .state) (y .memory)) p
+    ∙ pick-cases
+    (λ (y : Performed). stepped (y .at) (y .state) (y .memory) ≡ steppedOf (length wanted) state memory wanted x) (eqb (differsAt (x .reply) wanted) (length wanted))
+    (λ q. sym (pick-yes _ _ q)) (λ q. sym (pick-no _ _ q))
+    ∙ ap (λ (n : ℕ). steppedOf n state memory wanted x) e
 
 module _ (sheet state memory command reply : List ℕ) (lay : Layout) (v : verdictOf sheet ≡ Valid lay) where
   pub step-refused : (n : ℕ) → length reply ≡ lay .l → exchangeOf sheet state memory command reply ≡ left (told n 0) state memory reply

@@ -10,6 +10,7 @@ use Rattle.link.specs.Stored.{stateOf}
 use Rattle.sheet.specs.Walk.{verdictOf}
 use Rattle.slave.specs.Answers.{onSheet, onState}
 use Rattle.slave.specs.Exchange.{Left, exchangeOf}
+use Rattle.slave.specs.Wanted.{differsAt}
 use Rattle.slave.specs.declared.answers.Answer.{Answer}
 use Rattle.replay.specs.Trace.{Traced, says, formOf, tracedOf}
 use Rattle.replay.specs.declared.told.Told.{Told}
@@ -22,12 +23,6 @@ pub record Replayed : Type 0 where
 
 abbrev pub replayed : Told → List ℕ → List ℕ → Replayed
 replayed answer state memory = record { answer = answer; state = state; memory = memory }
-
--- the first octet at which two replies differ; their length where they do not
-unfoldable pub differsAt : List ℕ → List ℕ → ℕ
-differsAt [] ys = 0
-differsAt (x ∷ xs) [] = 0
-differsAt (x ∷ xs) (y ∷ ys) = pick (eqb x y) (suc (differsAt xs ys)) 0
 
 -- what one record leaves behind: the first differing octet, the state record and the memory
 pub record Stepped : Type 0 where

@@ -1,4 +1,4 @@
--- `replay::step::one` meets its contract: an exchange that is refused leaves all as it was, and any other is stepped.
+-- `replay::step::one` meets its contract: an exchange that is refused leaves all as it was, and any other is performed.
 use Prim.Native.Nat.{ℕ, _+_}
 use mathlib.Core.List.{List}
 use mathlib.Core.Path.{sym, ap, _∙_}
@@ -7,8 +7,8 @@ use borrow.Author.Needs.{needs}
 use lib.ListN.{length, drop}
 use Rattle.octets.specs.Parts.{part}
 use Rattle.slave.specs.Exchange.{exchanged}
-use Rattle.replay.specs.Replay.{steppedOf}
-use Rattle.replay.proofs.Steps.{cut-part, part-whole, step-refused, is-invalid, is-disabled, is-exchanged}
+use Rattle.slave.specs.Wanted.{performedOf}
+use Rattle.replay.proofs.Steps.{cut-part, part-whole, step-performed, step-refused, is-invalid, is-disabled, is-exchanged}
 use Rattle.replay.proofs.step.one.Statement.{statement}
 use Rattle.replay.proofs.step.one.Tie as tie
 
@@ -29,12 +29,15 @@ returns-2 c =
     step-refused (a .sheet .now) (a .state .now) (a .memory .now) _ _ (a .layout) (p .0) 5 r
     (is-disabled (a .sheet .now) (a .state .now) (a .memory .now) _ _ (a .layout) (p .0) _ (sym (c .before .before .before .before .before .read .ensures) ∙ c .before .before .before .held .given .1) (p .1) k r (c .if1 .taken))
 
-step-requires : tie.Need-step-requires
-step-requires c κs =
+perform-requires : tie.Need-perform-requires
+perform-requires c κs =
     let a = c .before .before .before .before .before .before .before .before .before .before .before .before .before .before .before .before .before .before .args in
     let p = c .before .before .before .before .before .before .before .before .before .before .before .before .before .before .before .before .before .before .pre in
     let l = a .layout .l in
-    let from = a .at + 1 in (
+    let from = a .at + 1 in
+    let wanted =
+    ap (λ (x : List ℕ). length x) (cut-part (a .trace .now) (a .at) (1 + l) l (from + l) (from + l + l) (omega arith) (λ i. from + l + l))
+    ∙ part-whole (a .trace .now) (a .at) (1 + l) l (omega (arith, p .3)) in (
       record {
         valid = p .0;
         held = sym (c .before .before .before .before .before .before .before .before .before .before .read .ensures) ∙ c .before .before .before .before .before .before .before .before .held .given .1;
@@ -42,11 +45,9 @@ step-requires c κs =
         asked =
             ap (λ (x : List ℕ). length x) (cut-part (a .trace .now) (a .at) 1 l from (from + l) (λ i. from) (λ i. from + l))
             ∙ part-whole (a .trace .now) (a .at) 1 l (omega (arith, p .3));
-        lent =
-            ap (λ (x : List ℕ). length x) (cut-part (a .trace .now) (a .at) (1 + l) l (from + l) (from + l + l) (omega arith) (λ i. from + l + l))
-            ∙ part-whole (a .trace .now) (a .at) (1 + l) l (omega (arith, p .3));
+        lent = p .2;
       },
-      p .2,
+      omega (arith, wanted),
     )
 
 returns-3 : tie.Need-returns-3
@@ -58,15 +59,17 @@ returns-3 c =
     let st = c .before .before .before .before .before .before .before .before .before .before .before .before .before .before .before .held .given .0 .0 in
     let command = cut-part (a .trace .now) (a .at) 1 l from (from + l) (λ i. from) (λ i. from + l) in
     let reply = cut-part (a .trace .now) (a .at) (1 + l) l (from + l) (from + l + l) (omega arith) (λ i. from + l + l) in
+    let k = part-whole (a .trace .now) (a .at) 1 l (omega (arith, p .3)) in
+    let r = part-whole (a .trace .now) (a .at) (1 + l) l (omega (arith, p .3)) in
     let x = is-exchanged (a .sheet .now) (a .state .now) (a .memory .now) (part (drop (a .at) (a .trace .now)) 1 l) (part (drop (a .at) (a .trace .now)) (1 + l) l)
-    (a .layout) (p .0) st (sym (c .before .before .before .before .before .before .before .before .before .before .before .before .before .before .before .before .before .read .ensures) ∙ c .before .before .before .before .before .before .before .before .before .before .before .before .before .before .before .held .given .1) (p .1)
-    (part-whole (a .trace .now) (a .at) 1 l (omega (arith, p .3))) (part-whole (a .trace .now) (a .at) (1 + l) l (omega (arith, p .3))) (c .before .before .before .before .before .before .before .before .before .before .before .before .if1 .left) in
-    c .before .before .before .before .before .before .step .ensures
-    ∙ (λ i. steppedOf l (a .state .now) (a .memory .now) (reply i) (exchanged (a .sheet .now) (a .layout) st (a .memory .now) (command i)))
-    ∙ ap (steppedOf l (a .state .now) (a .memory .now) (part (drop (a .at) (a .trace .now)) (1 + l) l)) (sym x)
+    (a .layout) (p .0) st (sym (c .before .before .before .before .before .before .before .before .before .before .before .before .before .before .before .before .before .read .ensures) ∙ c .before .before .before .before .before .before .before .before .before .before .before .before .before .before .before .held .given .1) (p .1) k r (c .before .before .before .before .before .before .before .before .before .before .before .before .if1 .left) in
+    step-performed l (a .state .now) (a .memory .now) _ _ r
+    (c .before .before .before .before .before .before .perform .ensures
+    ∙ (λ i. performedOf (reply i) (a .state .now) (a .memory .now) (exchanged (a .sheet .now) (a .layout) st (a .memory .now) (command i)))
+    ∙ ap (performedOf (part (drop (a .at) (a .trace .now)) (1 + l) l) (a .state .now) (a .memory .now)) (sym x))
 
 pub one-spec : {M : Type 1} → statement M
 one-spec =
     tie.close (tie.spec (λ c. search needs) (λ c. search needs) (λ c. search needs) (λ c. search needs) (λ c κs. search needs) (λ c. search needs)
     (λ c. search needs) (λ c. search needs) returns (λ c. search needs) returns-2 (λ c. search needs) (λ c. search needs) (λ c. search needs)
-    (λ c. search needs) (λ c. search needs) (λ c. search needs) step-requires (λ c. search needs) (λ c. search needs) (λ c. search needs) returns-3)
+    (λ c. search needs) (λ c. search needs) (λ c. search needs) perform-requires (λ c. search needs) (λ c. search needs) (λ c. search needs) returns-3)
