@@ -5,9 +5,10 @@ use Prim.Native.Nat.{ℕ, zero, suc, _+_, _-_, _*_, _/_, _≤_}
 use native.Mathlib.Nat.{suc-mul, div-mul-le-self}
 use native.Mathlib.Omega.{arith}
 use lib.ListN.{length, drop, length-drop}
-use Rattle.replay.specs.Replay.{Replayed, differsAt}
+use Rattle.slave.specs.Wanted.{differsAt}
+use Rattle.slave.proofs.Differs.{differs-self}
+use Rattle.replay.specs.Replay.{Replayed}
 use Rattle.replay.specs.Trace.{Traced, says, recordSize, recordsOf}
-use Rattle.replay.proofs.Differs.{differs-self}
 use Rattle.demands.specs.Replays.{callsOf, ours, RepliesOf, runReplies, traceReplies, TracesHaveReplies, AgreesExactly}
 use Rattle.demands.specs.Sequences.{callOf, runOf}
 use Rattle.demands.proofs.Lists.{part-length}

@@ -4,7 +4,8 @@ use mathlib.Core.List.{List, _∷_}
 use Prim.Native.Nat.{ℕ, suc, _+_, _*_, _/_, _%_, _≤_, _<_}
 use native.Mathlib.Omega.{arith}
 use lib.ListN.{length, getD}
-use Rattle.replay.specs.Replay.{Replayed, differsAt}
+use Rattle.slave.specs.Wanted.{differsAt}
+use Rattle.replay.specs.Replay.{Replayed}
 use Rattle.replay.specs.Trace.{Traced}
 use Rattle.demands.specs.Replays.{callsOf, ours, Folded, ReplayIsFold}
 use Rattle.demands.specs.Sequences.{callOf, runOf, lastState, lastMemory}

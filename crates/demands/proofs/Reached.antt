@@ -10,9 +10,10 @@ use Rattle.octets.proofs.Pick.{pick-eq, pick-ne}
 use Rattle.sheet.specs.Walk.{verdictOf}
 use Rattle.sheet.specs.declared.walk.Layout.{Layout}
 use Rattle.sheet.specs.declared.walk.Verdict.the-variants.{Valid}
-use Rattle.replay.specs.Replay.{Replayed, differsAt, playOf}
+use Rattle.slave.specs.Wanted.{differsAt}
+use Rattle.slave.proofs.Differs.{differs-most}
+use Rattle.replay.specs.Replay.{Replayed, playOf}
 use Rattle.replay.specs.Trace.{Traced, says}
-use Rattle.replay.proofs.Differs.{differs-most}
 use Rattle.demands.specs.Hidden.{Readable, Seen}
 use Rattle.demands.specs.Replays.{callsOf, ours, agreeing, RepliesOf, SecretsInReplay, OnlyAgreeingReach}
 use Rattle.demands.specs.Sequences.{Call, Reset, Enable, Exchange, callOf, runOf, lastMemory}

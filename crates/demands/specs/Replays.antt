@@ -13,7 +13,8 @@ use Rattle.sheet.specs.declared.walk.Layout.{Layout}
 use Rattle.sheet.specs.declared.walk.Verdict.the-variants.{Valid}
 use Rattle.slave.specs.Answers.{told}
 use Rattle.slave.specs.Exchange.{Left, exchangeOf}
-use Rattle.replay.specs.Replay.{Replayed, replayed, differsAt, playOf, replayOf}
+use Rattle.slave.specs.Wanted.{differsAt}
+use Rattle.replay.specs.Replay.{Replayed, replayed, playOf, replayOf}
 use Rattle.replay.specs.Trace.{Traced, says, formOf, recordSize, recordsOf, tracedOf}
 use Rattle.demands.specs.Hidden.{DifferOnlyHidden}
 use Rattle.demands.specs.Sequences.{Call, Exchange, runOf, lastState, lastMemory}
