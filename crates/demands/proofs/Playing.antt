@@ -8,7 +8,7 @@ use native.Mathlib.Omega.{arith}
 use lib.ListN.{length, drop, length-drop}
 use Rattle.octets.specs.Parts.{part}
 use Rattle.octets.specs.Pick.{pick}
-use Rattle.octets.proofs.Pick.{pick-ge, pick-ne, pick-same, pick-both}
+use Rattle.octets.proofs.Pick.{pick-ne, pick-same, pick-both}
 use Rattle.frame.specs.Fields.{commandOf}
 use Rattle.link.specs.Stored.{stateOf}
 use Rattle.link.specs.declared.state.LinkState.{LinkState}
@@ -24,6 +24,7 @@ use Rattle.slave.proofs.Order.{on-valid, on-state}
 use Rattle.replay.specs.Replay.{Replayed, replayed, replayOf}
 use Rattle.replay.specs.Trace.{Traced, recordSize, recordsOf}
 use Rattle.replay.specs.declared.told.Told.{Told}
+use Rattle.replay.proofs.Forms.{checked-short}
 use Rattle.demands.specs.Answered.{Answered}
 use Rattle.demands.specs.Replays.{callsOf, Alike, Playable, ReplayPlays, EachAnswered, RecordsAreAnswered, SecretsInWholeReplay, RefusedReplayWritesNothing}
 use Rattle.demands.specs.Sequences.{callOf, runOf}
@@ -40,7 +41,7 @@ pub replay-plays : ReplayPlays
 unfolding replayOf
 replay-plays sheet state memory trace lay st p short formed =
     on-valid _ _ _ _ (p .valid) ∙ on-state _ _ _ _ (p .held)
-    ∙ pick-same _ _ (p .whole) ∙ pick-ne _ _ (p .on) ∙ pick-ge _ _ short ∙ pick-same _ _ formed
+    ∙ pick-same _ _ (p .whole) ∙ pick-ne _ _ (p .on) ∙ pick-same _ _ (ap (λ (x : Told). x .number) (checked-short (lay .l) trace short) ∙ formed)
 
 -- an exchange of a whole record is answered, and leaves such a start again
 module _ (sheet state memory command reply : List ℕ) (lay : Layout) (st : LinkState) (p : Playable sheet state memory lay st)
@@ -116,8 +117,7 @@ secrets-in-whole-replay sheet lay v state m₁ m₂ hidden trace =
     subst₂ (λ (r₁ r₂ : Replayed). Alike m₁ m₂ r₁ r₂) (sym (pick-same _ _ (hidden .whole₁))) (sym (pick-same _ _ (hidden .whole₂)))
     (by-test m₁ m₂ _ (refused m₁ m₂ _ state)
     (by-test m₁ m₂ _ (refused m₁ m₂ _ state)
-    (by-test m₁ m₂ _ (refused m₁ m₂ _ state)
-    (secrets-in-replay sheet lay v state m₁ m₂ hidden (lay .l) 0 _ (traces-have-replies (lay .l) trace) .alike))))))
+    (secrets-in-replay sheet lay v state m₁ m₂ hidden (lay .l) 0 _ (traces-have-replies (lay .l) trace) .alike)))))
 
 -- records that are played are told with 0 or 34
 told-of : (sheet : List ℕ) (l : ℕ) {k : ℕ} {state memory : List ℕ} {ts front : List Traced} {r : Replayed} → Played sheet l k state memory ts front r
@@ -140,5 +140,4 @@ refused-replay-writes-nothing sheet state memory trace =
     pick-both (Untouched state memory) _ (λ n m. (refl, refl))
     (pick-both (Untouched state memory) _ (λ n m. (refl, refl))
     (pick-both (Untouched state memory) _ (λ n m. (refl, refl))
-    (pick-both (Untouched state memory) _ (λ n m. (refl, refl))
-    (λ n m. absurd (told-of sheet (lay .l) (played sheet (lay .l) 0 state memory _ (traces-have-replies (lay .l) trace)) n m)))))))
+    (λ n m. absurd (told-of sheet (lay .l) (played sheet (lay .l) 0 state memory _ (traces-have-replies (lay .l) trace)) n m))))))

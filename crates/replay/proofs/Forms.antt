@@ -1,6 +1,7 @@
 -- The form of a trace, record by record.
 --     form-end, form-bad, form-on     what the form from record k on is
 --     form-whole                      a trace without a fault has whole records alone
+--     checked-short, checked-whole    the same, of a trace of any length
 use mathlib.Core.Bool.{not}
 use mathlib.Core.List.{List}
 use mathlib.Core.Logic.{⊎-elim}
@@ -12,8 +13,8 @@ use borrow.Author.Tests.{ltb-false, le-leb, lt-leb, eq-eqb, ne-eqb}
 use lib.Dec.{eqb, ltb}
 use lib.ListN.{length, getD, drop, length-drop}
 use Rattle.octets.proofs.Cases.{lt-or-le, eq-or-ne}
-use Rattle.octets.proofs.Pick.{pick-yes, pick-no, passed}
-use Rattle.replay.specs.Trace.{kindLength, recordSize, faultOf, recordAt, says, formed, faultIn, formFrom, formOf}
+use Rattle.octets.proofs.Pick.{pick-yes, pick-no, pick-lt, pick-ge, passed}
+use Rattle.replay.specs.Trace.{kindLength, recordSize, faultOf, recordAt, says, formed, faultIn, formFrom, formOf, checkedForm}
 use Rattle.replay.specs.declared.form.Record.{Record}
 use Rattle.replay.specs.declared.form.Record.the-variants.{End, Whole, Bad}
 use Rattle.replay.specs.declared.told.Told.{Told}
@@ -84,3 +85,17 @@ whole-from l trace (suc n) k h f e =
 
 pub form-whole : (l : ℕ) (trace : List ℕ) → formOf l trace .number ≡ 0 → (n : ℕ) × (length trace ≡ n * recordSize l)
 form-whole l trace e = whole-from l trace (suc (length trace)) 0 (omega arith) (omega arith) e
+
+pub checked-short : (l : ℕ) (trace : List ℕ) → length trace ≤ 1073741823 → checkedForm l trace ≡ formOf l trace
+unfolding checkedForm
+checked-short l trace h = pick-ge _ _ h
+
+-- nothing is wrong with the form: the trace is not too long, and has whole records alone
+pub checked-whole : (l : ℕ) (trace : List ℕ) → checkedForm l trace .number ≡ 0
+    → (length trace ≤ 1073741823) × ((n : ℕ) × (length trace ≡ n * recordSize l))
+unfolding checkedForm
+checked-whole l trace e =
+    ⊎-elim
+    (λ (long : 1073741823 < length trace). absurd (let z : 35 ≡ 0 = ap (λ (x : Told). x .number) (sym (pick-lt _ _ long)) ∙ e in let k : ⊥ = omega arith in k))
+    (λ (short : length trace ≤ 1073741823). (short, form-whole l trace (ap (λ (x : Told). x .number) (sym (checked-short l trace short)) ∙ e)))
+    (lt-or-le 1073741823 (length trace))

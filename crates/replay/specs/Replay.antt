@@ -12,7 +12,7 @@ use Rattle.slave.specs.Answers.{onSheet, onState}
 use Rattle.slave.specs.Exchange.{Left, exchangeOf}
 use Rattle.slave.specs.Wanted.{differsAt}
 use Rattle.slave.specs.declared.answers.Answer.{Answer}
-use Rattle.replay.specs.Trace.{Traced, says, formOf, tracedOf}
+use Rattle.replay.specs.Trace.{Traced, says, checkedForm, tracedOf}
 use Rattle.replay.specs.declared.told.Told.{Told}
 
 -- what a replay leaves behind: its answer, the state record and the memory
@@ -65,6 +65,5 @@ replayOf sheet state memory trace =
     (λ st.
     pick (not (eqb (length memory) (lay .memory))) (replayed (says 2 0) state memory)
     (pick (eqb (st .link) 0) (replayed (says 5 0) state memory)
-    (pick (ltb 1073741823 (length trace)) (replayed (says 35 0) state memory)
-    (pick (not (eqb (formOf (lay .l) trace .number) 0)) (replayed (formOf (lay .l) trace) state memory)
-    (playOf sheet (lay .l) 0 state memory (tracedOf (lay .l) trace)))))))
+    (pick (not (eqb (checkedForm (lay .l) trace .number) 0)) (replayed (checkedForm (lay .l) trace) state memory)
+    (playOf sheet (lay .l) 0 state memory (tracedOf (lay .l) trace))))))

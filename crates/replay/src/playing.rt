@@ -72,10 +72,7 @@ pub fn replay(sheet: &[u8], state: &mut [u8], memory: &mut [u8], trace: &[u8]) -
     if st.link == link::state::DISABLED {
         return crate::told::plain(slave::answers::IS_DISABLED);
     }
-    if 1073741823 < trace.len() {
-        return crate::told::plain(crate::told::TOO_LONG);
-    }
-    let form = crate::whole::form(trace, layout.l);
+    let form = crate::whole::checked(trace, layout.l);
     if form.number != 0 {
         return form;
     }

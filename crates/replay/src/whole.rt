@@ -18,7 +18,7 @@ fn fault_in(found: Record) -> u8
 }
 
 // The first fault of a trace with its place, record by record; 0 where all records are whole.
-pub fn form(trace: &[u8], l: u8) -> Told
+fn form(trace: &[u8], l: u8) -> Told
     requires { ⌜ length (now trace) ≤ 1073741823 ⌝ }
     ensures { λ r. ⌜ r ≡ formOf l (now (trace .entry)) ⌝ }
 {
@@ -37,7 +37,7 @@ pub fn form(trace: &[u8], l: u8) -> Told
     crate::told::plain(0)
 }
 
-// The form of a trace of any length: what other crates call.
+// The form of a trace of any length.
 pub fn checked(trace: &[u8], l: u8) -> Told
     ensures { λ r. ⌜ r ≡ checkedForm l (now (trace .entry)) ⌝ }
 {
