@@ -9,7 +9,7 @@
 #include <ucontext.h>
 
 #define PAINT 0xA7
-#define PROMISED (20u * 1024u) /* what the header tells the integrator */
+#define PROMISED (2u * 1024u) /* what the header tells the integrator */
 
 static uint8_t painted[256 * 1024];
 static ucontext_t here, there;

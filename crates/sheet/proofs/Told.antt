@@ -8,8 +8,8 @@ use borrow.Author.Tests.{ne-eqb}
 use lib.Dec.{eqb}
 use Rattle.octets.specs.Pick.{pick}
 use Rattle.octets.proofs.Pick.{pick-no, pick-eq}
-use Rattle.sheet.specs.Faults.{numberOf, faultOf}
-use Rattle.sheet.specs.Handed.{countsNumber, failedNumber, countsIn, tells}
+use Rattle.sheet.specs.Faults.{numberOf}
+use Rattle.sheet.specs.Handed.{faultOf, countsNumber, failedNumber, countsIn, tells}
 use Rattle.sheet.specs.Walk.{layoutOf}
 use Rattle.sheet.specs.declared.records.Counts.{Counts}
 use Rattle.sheet.specs.declared.records.Fault.{Fault}

@@ -3,11 +3,11 @@ use Prim.Native.Nat.{ℕ, _+_, _*_, _/_, _%_}
 use mathlib.Core.List.{List}
 use lib.Dec.{eqb}
 use Rattle.octets.specs.Pick.{pick}
-use Rattle.sheet.specs.Faults.{numberOf, faultOf}
+use Rattle.sheet.specs.Faults.{numberOf}
 use Rattle.sheet.specs.Walk.{layoutOf}
 use Rattle.sheet.specs.declared.records.Counts.{Counts}
 use Rattle.sheet.specs.declared.records.Fault.{Fault}
-use Rattle.sheet.specs.declared.records.Fault.the-variants.{Ended}
+use Rattle.sheet.specs.declared.records.Fault.the-variants.{Ended, Unknown, Misplaced, Range, Disorder, Excess, Unmapped}
 use Rattle.sheet.specs.declared.records.Reading.{Reading}
 use Rattle.sheet.specs.declared.records.Reading.the-variants.{Record, Bad}
 use Rattle.sheet.specs.declared.walk.Verdict.{Verdict}
@@ -24,6 +24,16 @@ failedNumber fault place = place + 72057594037927936 * numberOf fault
 -- the counts that such a number has
 unfoldable pub countsIn : ℕ → Counts
 countsIn n = record { regions = n % 256; parameters = n / 256 % 256; items = n / 65536 % 256; memory = n / 16777216 % 4294967296 }
+
+-- the fault of a number; one that is none counts as the last
+unfoldable pub faultOf : ℕ → Fault
+faultOf n =
+    pick (eqb n 11) Ended
+    (pick (eqb n 12) Unknown
+    (pick (eqb n 13) Misplaced
+    (pick (eqb n 14) Range
+    (pick (eqb n 15) Disorder
+    (pick (eqb n 16) Excess Unmapped)))))
 
 -- what a number of either kind tells of the sheet
 unfoldable pub tells : List ℕ → ℕ → Verdict

@@ -1,6 +1,7 @@
 // What is told of a sheet's records: faults, counts, and the answer of one record's reading.
 ghost use mathlib.Core.Path.{_≡_};
-ghost use Rattle.sheet.specs.Faults.{numberOf, faultOf};
+ghost use Rattle.sheet.specs.Faults.{numberOf};
+ghost use Rattle.sheet.specs.Handed.{faultOf};
 
 // What is wrong with a sheet. The paper's number of each is `numberOf` of specs/Faults.antt.
 pub enum Fault {

@@ -1,7 +1,7 @@
 -- `sheet::records::fault_of` meets its contract, number by number.
 use mathlib.Core.Path.{refl, sym, _∙_}
 use Rattle.octets.proofs.Pick.{pick-eq, pick-ne, pick-key}
-use Rattle.sheet.specs.Faults.{faultOf}
+use Rattle.sheet.specs.Handed.{faultOf}
 use Rattle.sheet.proofs.records.fault_of.Statement.{statement}
 use Rattle.sheet.proofs.records.fault_of.Tie as tie
 
