@@ -3,9 +3,7 @@ use crate::state::Latches;
 use crate::state::LinkState;
 use crate::state::Watch;
 ghost use mathlib.Core.Path.{_≡_};
-ghost use Prim.Native.Nat.{_≤_};
-ghost use lib.ListN.{length};
-ghost use Rattle.link.specs.Stored.{fieldsOf, octetsOf, stateOf, stored};
+ghost use Rattle.link.specs.Stored.{fieldsOf, stateOf, stored};
 
 pub const STATE_LENGTH: usize = 10;
 

@@ -1,5 +1,5 @@
 -- What a region that has an address, or has it not, says of the numbers, and the other way round.
-use mathlib.Core.Bool.{Bool, true, false, _&&_, and-eq-true-iff, true≢false, false≢true}
+use mathlib.Core.Bool.{Bool, true, false, and-eq-true-iff, true≢false}
 use mathlib.Core.Path.{_≡_, refl, sym, _∙_}
 use Prim.Native.Nat.{ℕ, _+_, _<_, _≤_}
 use native.Mathlib.Omega.{arith}

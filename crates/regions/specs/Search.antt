@@ -1,6 +1,6 @@
 -- What is found in the regions. Memory is the regions one after another in sheet order; an address is not a place in the memory.
 use Prim.Native.Nat.{ℕ, zero, suc, _+_, _-_}
-use mathlib.Core.Bool.{Bool, true, false}
+use mathlib.Core.Bool.{Bool, false}
 use mathlib.Core.List.{List, [], _∷_}
 use lib.Dec.{eqb}
 use Rattle.octets.specs.Pick.{pick}

@@ -15,7 +15,6 @@ use lib.ListN.{length, getD, drop, length-drop}
 use Rattle.octets.proofs.Cases.{lt-or-le, eq-or-ne}
 use Rattle.octets.proofs.Pick.{pick-yes, pick-no, pick-lt, pick-ge, passed}
 use Rattle.replay.specs.Trace.{kindLength, recordSize, faultOf, recordAt, says, formed, faultIn, formFrom, formOf, checkedForm}
-use Rattle.replay.specs.declared.form.Record.{Record}
 use Rattle.replay.specs.declared.form.Record.the-variants.{End, Whole, Bad}
 use Rattle.replay.specs.declared.told.Told.{Told}
 

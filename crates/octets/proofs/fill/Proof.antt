@@ -1,10 +1,10 @@
 -- `octets::fill` meets its contract: after i turns the first i octets are v, and those behind are as they came.
-use mathlib.Core.Path.{_≡_, refl, sym, ap, _∙_}
+use mathlib.Core.Path.{_≡_, refl, _∙_}
 use mathlib.Core.List.{_++_, append-nil}
 use Prim.Native.Nat.{_≤_, _<_, _-_}
 use native.Mathlib.Omega.{arith}
 use borrow.Author.Fill.{fill-more}
-use lib.ListN.{length, drop, replicate, length-append, length-drop, length-replicate, length-set, drop-of-length-le}
+use lib.ListN.{length, drop, replicate, length-set, drop-of-length-le}
 use Rattle.octets.proofs.fill.Statement.{statement}
 use Rattle.octets.proofs.fill.Tie as tie
 

@@ -1,11 +1,10 @@
 -- `regions::search::spot_at` meets its contract: the search from region i on, with i regions passed, is the whole search.
-use mathlib.Core.Bool.{true, false}
 use mathlib.Core.Path.{_≡_, sym, ap, _∙_}
 use mathlib.Core.List.{List}
-use Prim.Native.Nat.{_≤_, _<_, _-_, _+_, _*_}
+use Prim.Native.Nat.{_≤_, _-_, _*_}
 use native.Mathlib.Omega.{arith}
 use borrow.Author.Needs.{needs}
-use Rattle.regions.specs.Region.{listed, regionAt, regionsOf, holdsOf}
+use Rattle.regions.specs.Region.{listed, regionAt, regionsOf}
 use Rattle.regions.specs.Search.{spotOf}
 use Rattle.regions.specs.declared.Region.{Region}
 use Rattle.regions.proofs.Listed.{listed-whole}

@@ -1,11 +1,11 @@
 -- `replay::playing::play` meets its contract: the k records passed agree, and m records are left.
 use Prim.Native.Nat.{ℕ, _≤_, _+_, _-_, _*_}
-use mathlib.Core.Path.{_≡_, refl, sym, ap, subst, _∙_}
+use mathlib.Core.Path.{_≡_, refl, sym, ap, _∙_}
 use native.Mathlib.Omega.{arith}
 use borrow.Author.Needs.{needs}
 use lib.ListN.{length, drop}
 use Rattle.sheet.proofs.Valid.{valid-sheet, length-least}
-use Rattle.replay.specs.Replay.{Replayed, Stepped, stepped, replayed, playOf}
+use Rattle.replay.specs.Replay.{stepped, playOf}
 use Rattle.replay.specs.Trace.{recordSize, recordsOf, tracedOf}
 use Rattle.replay.proofs.Plays.{play-differs, play-agrees, play-end, one-more, traced-all}
 use Rattle.replay.proofs.playing.play.Statement.{statement}
