@@ -1,7 +1,6 @@
 // The two passes over the trace, by pieces of whole records: its form, then its exchanges.
 use crate::files;
 use crate::showing;
-use crate::words;
 use libc::STDERR_FILENO;
 use std::num::wrapping_add_u64;
 ghost use Prim.Native.Nat.{_≤_};

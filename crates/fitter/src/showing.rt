@@ -1,5 +1,4 @@
 // A difference: the record, its command, and the two replies with a mark below the first octet in which they differ.
-use crate::words;
 
 // The marker line, below the digits of the octet.
 fn print_mark(octet: usize) {

@@ -1,4 +1,4 @@
-// Refusals and commands in words.
+// Refusals and commands in words, on the standard output, for the programs.
 use libc::STDOUT_FILENO;
 use machine::words::Command;
 
