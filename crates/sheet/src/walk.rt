@@ -41,6 +41,9 @@ fn laid_out(sheet: &[u8], so: Counts) -> Layout
     }
 }
 
+// Where a fault's number stands in the walk's: above every count, at 2^56.
+const FAULT_FROM: u64 = 72057594037927936;
+
 // The counts of a whole sheet as one number. The walk takes and hands back what fits in registers and nothing else, so that it is compiled into a
 // loop and takes no stack from record to record.
 fn counted(so: Counts) -> u64
@@ -52,12 +55,12 @@ fn counted(so: Counts) -> u64
         + 16777216 * (so.memory as u64)
 }
 
-// A fault with its place as one number: the fault's own stands above every count, at 2^56.
+// A fault with its place as one number.
 fn failed(fault: Fault, place: usize) -> u64
     requires { ⌜ place ≤ 65535 ⌝ }
     ensures { λ r. ⌜ r ≡ failedNumber fault place ⌝ }
 {
-    place as u64 + 72057594037927936 * (crate::records::fault_number(fault) as u64)
+    place as u64 + FAULT_FROM * (crate::records::fault_number(fault) as u64)
 }
 
 // The fault of a reading that is no record, with its place: taken apart here, since an `else` binds nothing.
@@ -104,7 +107,7 @@ fn walk(whole: &&[u8], at: usize, so: Counts) -> u64
 fn told(sheet: &[u8], walked: u64) -> Verdict
     ensures { λ r. ⌜ r ≡ tells (now (sheet .entry)) walked ⌝ }
 {
-    let number = (walked / 72057594037927936) as u8;
+    let number = (walked / FAULT_FROM) as u8;
     if number == 0 {
         return Verdict::Valid(laid_out(
             sheet,
