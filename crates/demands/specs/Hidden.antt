@@ -6,7 +6,7 @@ use mathlib.Core.Path.{_≡_}
 use lib.ListN.{length, getD}
 use Rattle.regions.specs.Region.{regionsOf, givesOf}
 use Rattle.regions.specs.Search.{spotOf}
-use Rattle.regions.specs.declared.Right.the-variants.{Read, WriteAsync}
+use Rattle.regions.specs.declared.Right.the-variants.{Read}
 use Rattle.regions.specs.declared.search.Spot.the-variants.{At}
 use Rattle.sheet.specs.Walk.{verdictOf}
 use Rattle.sheet.specs.declared.walk.Layout.{Layout}
