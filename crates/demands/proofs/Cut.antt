@@ -10,7 +10,8 @@ use lib.Seq.{take-append-le, drop-append-le}
 use Rattle.octets.specs.Parts.{part}
 use Rattle.octets.specs.Pick.{pick}
 use Rattle.octets.proofs.Pick.{pick-yes, pick-no}
-use Rattle.replay.specs.Replay.{Replayed, steppedOf, onStep, playOf}
+use Rattle.slave.specs.Wanted.{steppedOf}
+use Rattle.replay.specs.Replay.{Replayed, onStep, playOf}
 use Rattle.replay.specs.Trace.{Traced, traced, recordSize, recordsOf, tracedOf}
 use Rattle.demands.specs.Replays.{ours, goesOn, CutInTwo}
 

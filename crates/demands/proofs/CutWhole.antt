@@ -18,7 +18,8 @@ use Rattle.octets.proofs.Cases.{eq-or-ne, lt-or-le}
 use Rattle.octets.proofs.Pick.{pick-yes, pick-no, pick-ne, pick-ge, pick-le, pick-gt, pick-same, pick-both, passed}
 use Rattle.link.specs.declared.state.LinkState.{LinkState}
 use Rattle.sheet.specs.declared.walk.Layout.{Layout}
-use Rattle.replay.specs.Replay.{Replayed, replayed, Stepped, steppedOf, onStep, playOf, replayOf}
+use Rattle.slave.specs.Wanted.{Stepped, steppedOf}
+use Rattle.replay.specs.Replay.{Replayed, replayed, onStep, playOf, replayOf}
 use Rattle.replay.specs.Trace.{Traced, traced, says, kindLength, recordSize, faultOf, recordAt, formed, formFrom, formOf, recordsOf, tracedOf}
 use Rattle.replay.specs.declared.form.Record.{Record}
 use Rattle.replay.specs.declared.form.Record.the-variants.{End, Whole, Bad}

@@ -22,11 +22,11 @@ use Rattle.sheet.specs.declared.walk.Layout.{Layout}
 use Rattle.sheet.specs.declared.walk.Verdict.the-variants.{Valid}
 use Rattle.sheet.proofs.Valid.{valid-sheet, length-least}
 use Rattle.slave.specs.Exchange.{Left, refusalOf, exchanged, exchangeOf}
-use Rattle.slave.specs.Wanted.{differsAt}
+use Rattle.slave.specs.Wanted.{differsAt, steppedOf}
 use Rattle.slave.proofs.Differs.{differs-most}
 use Rattle.slave.proofs.Fits.{outcome-fits}
 use Rattle.slave.proofs.Order.{no-refusal}
-use Rattle.replay.specs.Replay.{Replayed, replayed, steppedOf, onStep, playOf}
+use Rattle.replay.specs.Replay.{Replayed, replayed, onStep, playOf}
 use Rattle.replay.specs.Trace.{Traced, says}
 use Rattle.demands.specs.Replays.{ours, agreeing, RepliesOf}
 use Rattle.demands.proofs.Refusals.{by-sheet, by-state}

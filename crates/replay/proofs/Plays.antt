@@ -11,7 +11,8 @@ use lib.Seq.{drop-drop}
 use Rattle.octets.specs.Parts.{part}
 use Rattle.octets.proofs.Pick.{pick-lt, pick-ge}
 use Rattle.slave.specs.Exchange.{exchangeOf}
-use Rattle.replay.specs.Replay.{replayed, Stepped, steppedOf, onStep, playOf}
+use Rattle.slave.specs.Wanted.{Stepped, steppedOf}
+use Rattle.replay.specs.Replay.{replayed, onStep, playOf}
 use Rattle.replay.specs.Trace.{says, recordSize, recordsOf, tracedOf}
 
 module _ (sheet trace : List ℕ) (l k at : ℕ) (state memory : List ℕ) (m : ℕ) (x : Stepped)

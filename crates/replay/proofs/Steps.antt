@@ -10,11 +10,10 @@ use mathlib.Core.Path.{_≡_, refl, sym, ap, ap₂, _∙_}
 use Prim.Native.Nat.{ℕ, _+_, _-_, _≤_}
 use native.Mathlib.Omega.{arith}
 use borrow.Author.Tests.{eq-eqb, ne-eqb}
-use lib.Dec.{eqb}
 use lib.ListN.{length, take, drop, length-take, length-drop}
 use lib.Seq.{drop-drop}
 use Rattle.octets.specs.Parts.{part}
-use Rattle.octets.proofs.Pick.{pick-yes, pick-no, pick-differ, pick-same, pick-cases}
+use Rattle.octets.proofs.Pick.{pick-yes, pick-no, pick-differ, pick-same}
 use Rattle.link.specs.Stored.{stateOf}
 use Rattle.link.specs.declared.state.LinkState.{LinkState}
 use Rattle.link.specs.declared.stored.Stored.the-variants.{State, Invalid}
@@ -23,10 +22,9 @@ use Rattle.sheet.specs.declared.walk.Layout.{Layout}
 use Rattle.sheet.specs.declared.walk.Verdict.the-variants.{Valid}
 use Rattle.slave.specs.Answers.{told}
 use Rattle.slave.specs.Exchange.{Left, left, refusalOf, exchanged, exchangeOf}
-use Rattle.slave.specs.Wanted.{differsAt, Performed, performed, performedOf}
+use Rattle.slave.specs.Wanted.{differsAt, Stepped, stepped, steppedOf, Performed, performed, performedOf}
 use Rattle.slave.proofs.Differs.{differs-self}
 use Rattle.slave.proofs.Order.{on-valid, on-invalid, on-state}
-use Rattle.replay.specs.Replay.{stepped, steppedOf}
 
 module _ (trace : List ℕ) (at from n : ℕ) where
   -- the part that is lent, from a place of the trace up to another
@@ -41,15 +39,9 @@ module _ (trace : List ℕ) (at from n : ℕ) where
   part-whole h = simp (length-take, length-drop) (omega arith)
 
 -- where all of a record's reply is wanted, what is performed is stepped
-pub step-performed : (l : ℕ) (state memory wanted : List ℕ) (x : Left) → length wanted ≡ l → {d : ℕ} {s m r : List ℕ}
-    → performed d s m r ≡ performedOf wanted state memory x → stepped d s m ≡ steppedOf l state memory wanted x
-unfolding performedOf steppedOf
-step-performed l state memory wanted x e p =
-    ap (λ (y : Performed). stepped (y .at) (y .state) (y .memory)) p
-    ∙ pick-cases
-    (λ (y : Performed). stepped (y .at) (y .state) (y .memory) ≡ steppedOf (length wanted) state memory wanted x) (eqb (differsAt (x .reply) wanted) (length wanted))
-    (λ q. sym (pick-yes _ _ q)) (λ q. sym (pick-no _ _ q))
-    ∙ ap (λ (n : ℕ). steppedOf n state memory wanted x) e
+pub step-performed : (l : ℕ) (state memory wanted : List ℕ) (x : Left) → length wanted ≡ l → {s : Stepped} {r : List ℕ}
+    → performed s r ≡ performedOf wanted state memory x → s ≡ steppedOf l state memory wanted x
+step-performed l state memory wanted x e p = ap (λ (y : Performed). y .step) p ∙ ap (λ (n : ℕ). steppedOf n state memory wanted x) e
 
 module _ (sheet state memory command reply : List ℕ) (lay : Layout) (v : verdictOf sheet ≡ Valid lay) where
   pub step-refused : (n : ℕ) → length reply ≡ lay .l → exchangeOf sheet state memory command reply ≡ left (told n 0) state memory reply

@@ -9,8 +9,8 @@ use Rattle.octets.specs.Pick.{pick}
 use Rattle.link.specs.Stored.{stateOf}
 use Rattle.sheet.specs.Walk.{verdictOf}
 use Rattle.slave.specs.Answers.{onSheet, onState}
-use Rattle.slave.specs.Exchange.{Left, exchangeOf}
-use Rattle.slave.specs.Wanted.{differsAt}
+use Rattle.slave.specs.Exchange.{exchangeOf}
+use Rattle.slave.specs.Wanted.{Stepped, steppedOf}
 use Rattle.slave.specs.declared.answers.Answer.{Answer}
 use Rattle.replay.specs.Trace.{Traced, says, checkedForm, tracedOf}
 use Rattle.replay.specs.declared.told.Told.{Told}
@@ -23,21 +23,6 @@ pub record Replayed : Type 0 where
 
 abbrev pub replayed : Told → List ℕ → List ℕ → Replayed
 replayed answer state memory = record { answer = answer; state = state; memory = memory }
-
--- what one record leaves behind: the first differing octet, the state record and the memory
-pub record Stepped : Type 0 where
-  pub at : ℕ
-  pub state : List ℕ
-  pub memory : List ℕ
-
-abbrev pub stepped : ℕ → List ℕ → List ℕ → Stepped
-stepped at state memory = record { at = at; state = state; memory = memory }
-
--- a record's reply beside what our machine left: its state and memory where the replies are the same; else "on a difference, state and memory stand
--- as before that record"
-unfoldable pub steppedOf : ℕ → List ℕ → List ℕ → List ℕ → Left → Stepped
-steppedOf l state memory reply x =
-    pick (eqb (differsAt (x .reply) reply) l) (stepped (differsAt (x .reply) reply) (x .state) (x .memory)) (stepped (differsAt (x .reply) reply) state memory)
 
 -- what record number k leads to: a difference, or the records behind it
 unfoldable pub onStep : ℕ → ℕ → Stepped → (List ℕ → List ℕ → Replayed) → Replayed

@@ -8,7 +8,7 @@ ghost use Rattle.octets.specs.Parts.{part};
 ghost use Rattle.sheet.specs.Walk.{verdictOf};
 ghost use Rattle.sheet.specs.declared.walk.Verdict.the-variants.{Valid};
 ghost use Rattle.slave.specs.Exchange.{exchangeOf};
-ghost use Rattle.replay.specs.Replay.{stepped, steppedOf};
+ghost use Rattle.slave.specs.Wanted.{stepped, steppedOf};
 
 // The record at a place. What an exchange would refuse leaves everything as it was, and so does this.
 pub fn one(

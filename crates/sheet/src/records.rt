@@ -1,7 +1,6 @@
 // What is told of a sheet's records: faults, counts, and the answer of one record's reading.
 ghost use mathlib.Core.Path.{_≡_};
 ghost use Rattle.sheet.specs.Faults.{numberOf};
-ghost use Rattle.sheet.specs.Handed.{faultOf};
 
 // What is wrong with a sheet. The paper's number of each is `numberOf` of specs/Faults.antt.
 pub enum Fault {
@@ -40,20 +39,5 @@ pub fn fault_number(fault: Fault) -> u8
         Fault::Disorder => 15,
         Fault::Excess => 16,
         Fault::Unmapped => 17,
-    }
-}
-
-// The fault of a paper's number; a number that is none counts as the last.
-pub fn fault_of(number: u8) -> Fault
-    ensures { λ r. ⌜ r ≡ faultOf number ⌝ }
-{
-    match number {
-        11 => Fault::Ended,
-        12 => Fault::Unknown,
-        13 => Fault::Misplaced,
-        14 => Fault::Range,
-        15 => Fault::Disorder,
-        16 => Fault::Excess,
-        _ => Fault::Unmapped,
     }
 }

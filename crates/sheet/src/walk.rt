@@ -6,7 +6,7 @@ ghost use mathlib.Core.Path.{_≡_};
 ghost use Prim.Native.Nat.{ℕ, _≤_, _<_, _-_};
 ghost use lib.ListN.{length, drop};
 ghost use Rattle.sheet.specs.Sound.{Standing};
-ghost use Rattle.sheet.specs.Handed.{countsNumber, failedNumber, tells, failedAt};
+ghost use Rattle.sheet.specs.Handed.{countsNumber, failedNumber, faultOf, tells, failedAt};
 ghost use Rattle.sheet.specs.Walk.{layoutOf, endedOf, walkOf, verdictOf};
 
 // What a valid sheet says: the link record's three fields, the counts, and the octets of memory.
@@ -103,6 +103,21 @@ fn walk(whole: &&[u8], at: usize, so: Counts) -> u64
     walk(whole, at + size as usize, next)
 }
 
+// The fault of a paper's number; a number that is none counts as the last.
+fn fault_of(number: u8) -> Fault
+    ensures { λ r. ⌜ r ≡ faultOf number ⌝ }
+{
+    match number {
+        11 => Fault::Ended,
+        12 => Fault::Unknown,
+        13 => Fault::Misplaced,
+        14 => Fault::Range,
+        15 => Fault::Disorder,
+        16 => Fault::Excess,
+        _ => Fault::Unmapped,
+    }
+}
+
 // The verdict that the walk's number tells.
 fn told(sheet: &[u8], walked: u64) -> Verdict
     ensures { λ r. ⌜ r ≡ tells (now (sheet .entry)) walked ⌝ }
@@ -119,7 +134,7 @@ fn told(sheet: &[u8], walked: u64) -> Verdict
             },
         ));
     }
-    Verdict::Faulty(crate::records::fault_of(number), (walked % 65536) as u16)
+    Verdict::Faulty(fault_of(number), (walked % 65536) as u16)
 }
 
 // The verdict on a sheet of any octets.

@@ -20,7 +20,7 @@ use Rattle.octets.specs.Pick.{pick}
 use Rattle.octets.proofs.Cases.{eq-or-ne}
 use Rattle.octets.proofs.Pick.{pick-yes, pick-no, pick-eq, pick-both}
 use Rattle.slave.specs.Exchange.{Left}
-use Rattle.slave.specs.Wanted.{differsAt, performed, performedOf}
+use Rattle.slave.specs.Wanted.{differsAt, stepped, steppedOf}
 
 pub differs-self : (xs : List ℕ) → differsAt xs xs ≡ length xs
 unfolding differsAt
@@ -69,7 +69,7 @@ module _ (xs ys : List ℕ) (i : ℕ) (h : length ys ≤ i) where
   pub begins-end : i ≤ length ys → eqb (i + differsAt (drop i xs) (drop i ys)) (length ys) ≡ true
   begins-end k = eq-eqb _ (length ys) (let e = differs-end in omega arith)
 
-pub wanted-nothing : (state memory : List ℕ) (x : Left) → performedOf [] state memory x ≡ performed 0 (x .state) (x .memory) (x .reply)
-unfolding performedOf
+pub wanted-nothing : (state memory : List ℕ) (x : Left) → steppedOf 0 state memory [] x ≡ stepped 0 (x .state) (x .memory)
+unfolding steppedOf
 wanted-nothing state memory x =
-    pick-eq _ _ (differs-nowhere (x .reply)) ∙ ap (λ (n : ℕ). performed n (x .state) (x .memory) (x .reply)) (differs-nowhere (x .reply))
+    pick-eq _ _ (differs-nowhere (x .reply)) ∙ ap (λ (n : ℕ). stepped n (x .state) (x .memory)) (differs-nowhere (x .reply))

@@ -12,19 +12,28 @@ differsAt [] ys = 0
 differsAt (x ∷ xs) [] = 0
 differsAt (x ∷ xs) (y ∷ ys) = pick (eqb x y) (suc (differsAt xs ys)) 0
 
--- what a command leaves behind: the first octet that is not what is wanted, and every lent octet that it may write
-pub record Performed : Type 0 where
+-- what is left of state and memory, with the first octet that is not what is wanted
+pub record Stepped : Type 0 where
   pub at : ℕ
   pub state : List ℕ
   pub memory : List ℕ
+
+abbrev pub stepped : ℕ → List ℕ → List ℕ → Stepped
+stepped at state memory = record { at = at; state = state; memory = memory }
+
+-- a reply beside what our machine left: its state and memory where the first l octets are what is wanted; else, as request 6 says, "on a difference,
+-- state and memory stand as before that record"
+unfoldable pub steppedOf : ℕ → List ℕ → List ℕ → List ℕ → Left → Stepped
+steppedOf l state memory wanted x =
+    pick (eqb (differsAt (x .reply) wanted) l) (stepped (differsAt (x .reply) wanted) (x .state) (x .memory)) (stepped (differsAt (x .reply) wanted) state memory)
+
+-- what a command leaves behind: that, and the whole reply
+pub record Performed : Type 0 where
+  pub step : Stepped
   pub reply : List ℕ
 
-abbrev pub performed : ℕ → List ℕ → List ℕ → List ℕ → Performed
-performed at state memory reply = record { at = at; state = state; memory = memory; reply = reply }
+abbrev pub performed : Stepped → List ℕ → Performed
+performed step reply = record { step = step; reply = reply }
 
--- the outcome's state and memory where the reply begins with what is wanted; else those from before; the reply is whole in both cases
-unfoldable pub performedOf : List ℕ → List ℕ → List ℕ → Left → Performed
-performedOf wanted state memory x =
-    pick (eqb (differsAt (x .reply) wanted) (length wanted))
-    (performed (differsAt (x .reply) wanted) (x .state) (x .memory) (x .reply))
-    (performed (differsAt (x .reply) wanted) state memory (x .reply))
+abbrev pub performedOf : List ℕ → List ℕ → List ℕ → Left → Performed
+performedOf wanted state memory x = performed (steppedOf (length wanted) state memory wanted x) (x .reply)

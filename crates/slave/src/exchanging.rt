@@ -12,7 +12,7 @@ ghost use Rattle.frame.specs.Body.{replyOf};
 ghost use Rattle.frame.specs.Fields.{commandOf};
 ghost use Rattle.machine.specs.Outcomes.{outcomeOf};
 ghost use Rattle.slave.specs.Exchange.{left, refusalOf, exchanged, exchangeOf, Lent, Ready};
-ghost use Rattle.slave.specs.Wanted.{performed, performedOf};
+ghost use Rattle.slave.specs.Wanted.{stepped, performed, performedOf};
 
 // The first refusal behind the sheet's and the state's, by lengths and link; 0 where there is none.
 fn refusal(layout: Layout, st: LinkState, memory: usize, command: usize, reply: usize) -> u8
@@ -67,7 +67,7 @@ pub fn perform(
     reply: &mut [u8],
 ) -> u8
     requires { ⌜ Ready (now sheet) (now state) (now memory) (now command) (now reply) layout st × (length (now wanted) ≤ layout .l) ⌝ }
-    ensures { λ d. ⌜ performed d (now (state .exit)) (now (memory .exit)) (now (reply .exit)) ≡ performedOf (now (wanted .entry)) (now (state .entry)) (now (memory .entry)) (exchanged (now (sheet .entry)) layout st (now (memory .entry)) (now (command .entry))) ⌝ }
+    ensures { λ d. ⌜ performed (stepped d (now (state .exit)) (now (memory .exit))) (now (reply .exit)) ≡ performedOf (now (wanted .entry)) (now (state .entry)) (now (memory .entry)) (exchanged (now (sheet .entry)) layout st (now (memory .entry)) (now (command .entry))) ⌝ }
 {
     let outcome = build(sheet, layout, st, memory, command, reply);
     let d = crate::wanted::differs(reply, wanted);

@@ -5,7 +5,8 @@ use native.Mathlib.Omega.{arith}
 use borrow.Author.Needs.{needs}
 use lib.ListN.{length, drop}
 use Rattle.sheet.proofs.Valid.{valid-sheet, length-least}
-use Rattle.replay.specs.Replay.{stepped, playOf}
+use Rattle.slave.specs.Wanted.{stepped}
+use Rattle.replay.specs.Replay.{playOf}
 use Rattle.replay.specs.Trace.{recordSize, recordsOf, tracedOf}
 use Rattle.replay.proofs.Plays.{play-differs, play-agrees, play-end, one-more, traced-all}
 use Rattle.replay.proofs.playing.play.Statement.{statement}

@@ -6,6 +6,7 @@ use borrow.Author.Needs.{needs}
 use Rattle.octets.proofs.Pick.{pick-differ, pick-same}
 use Rattle.slave.specs.Answers.{told, sheetAnswer}
 use Rattle.slave.specs.Exchange.{left, exchanged, exchangeOf}
+use Rattle.slave.specs.Wanted.{Performed}
 use Rattle.slave.specs.declared.answers.Answer.{Answer}
 use Rattle.slave.proofs.Differs.{wanted-nothing}
 use Rattle.slave.proofs.Order.{on-faulty, on-valid, on-invalid, on-state, no-refusal}
@@ -62,8 +63,9 @@ returns-4 : tie.Need-returns-4
 unfolding exchangeOf exchanged
 returns-4 c =
     let a = c .before .before .before .before .before .before .before .before .before .before .before .before .before .before .before .before .before .before .before .before .before .before .before .before .before .before .before .before .args in
-    let e = c .before .before .before .before .before .before .before .perform .ensures ∙ wanted-nothing (a .state .now) (a .memory .now) _ in
-    (λ i. left (c .plain3 .ensures i) (e i .state) (e i .memory) (e i .reply))
+    let e = c .before .before .before .before .before .before .before .perform .ensures in
+    let step = ap (λ (x : Performed). x .step) e ∙ wanted-nothing (a .state .now) (a .memory .now) _ in
+    (λ i. left (c .plain3 .ensures i) (step i .state) (step i .memory) (e i .reply))
     ∙ sym
     (on-valid _ _ _ _ (sym (c .before .before .before .before .before .before .before .before .before .before .before .before .before .before .before .before .before .before .before .before .before .before .check .ensures) ∙ c .before .before .before .before .before .before .before .before .before .before .before .before .before .before .before .before .before .before .before .before .verdict .given .1)
     ∙ on-state _ _ _ _ (sym (c .before .before .before .before .before .before .before .before .before .before .before .before .before .before .before .before .before .read .ensures) ∙ c .before .before .before .before .before .before .before .before .before .before .before .before .before .before .before .held .given .1)

@@ -14,7 +14,7 @@ use Rattle.link.proofs.Back.{written, read-valid}
 use Rattle.machine.specs.declared.words.Outcome.{Outcome}
 use Rattle.sheet.proofs.Valid.{valid-sheet, length-most}
 use Rattle.slave.specs.Exchange.{exchanged}
-use Rattle.slave.specs.Wanted.{differsAt, performed, performedOf}
+use Rattle.slave.specs.Wanted.{differsAt, stepped, steppedOf, performed}
 use Rattle.slave.proofs.Differs.{differs-most}
 use Rattle.slave.proofs.Fits.{lent-fits, ready-lent, fits-stored}
 use Rattle.slave.proofs.exchanging.perform.Statement.{statement}
@@ -29,14 +29,15 @@ differs-requires c κs =
     (omega (arith, p .1), omega arith)
 
 returns : tie.Need-returns
-unfolding performedOf exchanged
+unfolding steppedOf exchanged
 returns c =
     let a = c .before .before .before .before .before .before .before .before .before .before .before .before .before .before .args in
     let d = c .before .differs .result in
     let reply = c .before .before .before .before .before .build .ensures .1 in
     let e = c .before .differs .ensures ∙ ap (λ (x : List ℕ). differsAt x (a .wanted .now)) reply in
-    (λ i. performed (e i) (a .state .now) (a .memory .now) (reply i))
-    ∙ sym (pick-ne _ _ (λ z. let k : d ≡ length (a .wanted .now) = e ∙ z in let w : ⊥ = omega arith in w))
+    let step = ap (λ (n : ℕ). stepped n (a .state .now) (a .memory .now)) e
+    ∙ sym (pick-ne _ _ (λ z. let k : d ≡ length (a .wanted .now) = e ∙ z in let w : ⊥ = omega arith in w)) in
+    λ i. performed (step i) (reply i)
 
 store-requires : tie.Need-store-requires
 store-requires c κs =
@@ -48,7 +49,7 @@ store-requires c κs =
     fits-stored (o .effect) (length (a .command .now)) (length (a .memory .now)) (length (a .sheet .now)) (f .1)
 
 returns-2 : tie.Need-returns-2
-unfolding performedOf exchanged
+unfolding steppedOf exchanged
 returns-2 c =
     let a = c .before .before .before .before .before .before .before .before .before .before .before .before .before .before .before .before .before .before .before .before .before .before .before .args in
     let o = c .before .before .before .before .before .before .before .before .before .before .before .before .before .before .build .result in
@@ -61,7 +62,8 @@ returns-2 c =
     let e = found ∙ ap (λ (x : List ℕ). differsAt x (a .wanted .now)) reply in
     let state = c .before .before .write .ensures ∙ written (a .state .now) (o .next) (read-valid _ _ _ (c .before .before .before .before .before .before .before .before .before .before .before .before .before .before .before .before .before .before .before .before .before .before .before .pre .0 .held) .0) ∙ ap (λ (x : Outcome). octetsOf (x .next)) q in
     let memory = c .before .before .before .before .before .before .store .ensures ∙ ap (λ (x : Outcome). memoryAfter (x .effect) (a .command .now) (a .memory .now)) q in
-    (λ i. performed (e i) (state i) (memory i) (reply i)) ∙ sym (pick-eq _ _ (sym e ∙ all))
+    let step = (λ i. stepped (e i) (state i) (memory i)) ∙ sym (pick-eq _ _ (sym e ∙ all)) in
+    λ i. performed (step i) (reply i)
 
 pub perform-spec : {M : Type 1} → statement M
 perform-spec =

@@ -1,9 +1,9 @@
--- `sheet::records::fault_of` meets its contract, number by number.
+-- `sheet::walk::fault_of` meets its contract, number by number.
 use mathlib.Core.Path.{refl, sym, _∙_}
 use Rattle.octets.proofs.Pick.{pick-eq, pick-ne, pick-key}
 use Rattle.sheet.specs.Handed.{faultOf}
-use Rattle.sheet.proofs.records.fault_of.Statement.{statement}
-use Rattle.sheet.proofs.records.fault_of.Tie as tie
+use Rattle.sheet.proofs.walk.fault_of.Statement.{statement}
+use Rattle.sheet.proofs.walk.fault_of.Tie as tie
 
 returns : tie.Need-returns
 unfolding faultOf
