@@ -1,18 +1,12 @@
 /* Measures the stack that the calls need for the largest sheet. */
-#ifndef _XOPEN_SOURCE
-#define _XOPEN_SOURCE 700 /* makecontext is not plain C99 */
-#endif
+#include "painted.h"
 #include "sheets.h"
 
 #include <stdio.h>
 #include <string.h>
-#include <ucontext.h>
 
-#define PAINT 0xA7
 #define PROMISED (2u * 1024u) /* what the header tells the integrator */
 
-static uint8_t painted[256 * 1024];
-static ucontext_t here, there;
 static struct built sheet;
 static uint8_t state[T24_STATE_LEN], memory[T24_MEMORY_MAX];
 static uint8_t command[T24_L_MAX], reply[T24_L_MAX];
@@ -75,22 +69,6 @@ static void everything(void)
            != (uint64_t)sizeof codes << 32;
 }
 
-/* Runs everything on the painted stack and counts what lost its paint. */
-static size_t used_by_everything(void)
-{
-    size_t untouched;
-
-    there.uc_stack.ss_sp = painted;
-    there.uc_stack.ss_size = sizeof painted;
-    there.uc_link = &here;
-    makecontext(&there, everything, 0);
-    if (swapcontext(&here, &there) != 0)
-        return sizeof painted;
-    for (untouched = 0; painted[untouched] == PAINT; untouched++)
-        continue;
-    return sizeof painted - untouched;
-}
-
 static int report(size_t used)
 {
     const int good = sum == 0 && used <= PROMISED;
@@ -104,8 +82,5 @@ static int report(size_t used)
 int main(void)
 {
     build_largest(&sheet, 64);
-    memset(painted, PAINT, sizeof painted);
-    if (getcontext(&there) != 0)
-        return 3;
-    return report(used_by_everything());
+    return report(stack_used_by(everything));
 }

@@ -1,17 +1,13 @@
 /* Stack that each of the calls takes, by number of records in the sheet:
  * a call runs on a painted stack, and what lost its paint is counted, less what
  * an empty function takes there. */
-#ifndef _XOPEN_SOURCE
-#define _XOPEN_SOURCE 700 /* makecontext is not plain C99 */
-#endif
+#include "painted.h"
 #include "sheets.h"
 
 #include <stdio.h>
 #include <stdlib.h>
 #include <string.h>
-#include <ucontext.h>
 
-#define PAINT 0xA7
 #define L 64u
 #define CALLS 6
 #define RECORD (1u + 2u * L)
@@ -29,8 +25,6 @@ static const struct size sizes[] = {
 };
 #define SIZES (sizeof sizes / sizeof sizes[0])
 
-static uint8_t painted[256 * 1024];
-static ucontext_t here, there;
 static struct built sheet;
 static uint8_t state[T24_STATE_LEN], memory[T24_MEMORY_MAX];
 static uint8_t command[L], reply[L];
@@ -96,23 +90,14 @@ static void keep_record(void)
     trace_len += RECORD;
 }
 
-/* Octets that lost their paint while the function ran there. */
+/* A call that does not run, or is refused, measures nothing. */
 static size_t used_by(void (*call)(void))
 {
-    size_t untouched;
+    const size_t used = stack_used_by(call);
 
-    memset(painted, PAINT, sizeof painted);
-    if (getcontext(&there) != 0)
+    if (used == sizeof painted || answer != 0)
         exit(3);
-    there.uc_stack.ss_sp = painted;
-    there.uc_stack.ss_size = sizeof painted;
-    there.uc_link = &here;
-    makecontext(&there, call, 0);
-    if (swapcontext(&here, &there) != 0 || answer != 0)
-        exit(3);
-    for (untouched = 0; painted[untouched] == PAINT; untouched++)
-        continue;
-    return sizeof painted - untouched;
+    return used;
 }
 
 /* A command that the sheet accepts, if it has a record of each kind. */
