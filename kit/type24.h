@@ -198,6 +198,7 @@ uint64_t t24_exchange(const uint8_t *sheet, size_t sheet_len,
  * records as place.
  * Afterwards: on T24_DONE state and memory are those behind the last record, on
  * T24_TRACE_DIFFERS those before the one that differs; else they are unchanged.
+ * Sheet and trace are unchanged.
  */
 uint64_t t24_replay(const uint8_t *sheet, size_t sheet_len,
                     uint8_t *state, size_t state_len,
