@@ -11,7 +11,7 @@ use Rattle.replay.specs.Replay.{Replayed}
 use Rattle.replay.specs.Trace.{Traced, says, recordSize, recordsOf}
 use Rattle.demands.specs.Replays.{callsOf, ours, RepliesOf, runReplies, traceReplies, TracesHaveReplies, AgreesExactly}
 use Rattle.demands.specs.Sequences.{callOf, runOf}
-use Rattle.demands.proofs.Lists.{part-length}
+use Rattle.octets.proofs.Overlaid.{part-length}
 use Rattle.demands.proofs.Replays.{Played, ended, differed, agreed, played}
 
 -- a replay that told 0 agreed at every record

@@ -11,7 +11,7 @@ use Rattle.slave.specs.Exchange.{Left, exchangeOf}
 use Rattle.demands.specs.Hidden.{DifferOnlyHidden, Seen, seen}
 use Rattle.demands.specs.Idle.{KeepsSecrets, AgreesWhereReached, refusesAll, singleReply, storesNothing, echoes, echoesAfterwards, inventing, inventsRsn}
 use Rattle.demands.specs.Sequences.{Call, Reset, Enable, Exchange, callOf, runOf, lastMemory}
-use Rattle.demands.proofs.Lists.{still-agree}
+use Rattle.octets.proofs.Overlaid.{still-agree}
 use Rattle.demands.proofs.Secrets.{call-kept, demand-3}
 
 -- the same behind the same

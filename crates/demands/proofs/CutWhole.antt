@@ -27,7 +27,7 @@ use Rattle.replay.specs.declared.told.Told.{Told}
 use Rattle.replay.proofs.Forms.{form-end, form-on}
 use Rattle.demands.specs.Replays.{ours, Playable, goesOn, FormsJoin, further, ReplayCutInTwo}
 use Rattle.demands.proofs.Cut.{cut-in-two}
-use Rattle.demands.proofs.Lists.{part-length}
+use Rattle.octets.proofs.Overlaid.{part-length}
 use Rattle.demands.proofs.Playing.{replay-plays, again}
 
 -- the form y of what stands behind p octets, in the form x of the whole

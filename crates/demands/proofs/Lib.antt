@@ -1,10 +1,8 @@
 -- The proofs of what the owner reads.
 pub mod Bench
 pub mod Histories
-pub mod States
 pub mod Refusals
 pub mod Rows
-pub mod Lists
 pub mod Shown
 pub mod Memories
 pub mod Owned

@@ -27,7 +27,7 @@ use Rattle.slave.proofs.Order.{no-refusal}
 use Rattle.demands.specs.Accepted.{Write, Nothing, Octets, rowOf, acceptedOf, laid}
 use Rattle.demands.specs.Answered.{Answered}
 use Rattle.demands.specs.Writes.{Wrote, WritesOwnOctets}
-use Rattle.demands.proofs.Lists.{put-before, put-inside, put-behind, part-length, part-at}
+use Rattle.octets.proofs.Overlaid.{put-before, put-inside, put-behind, part-length, part-at}
 use Rattle.demands.proofs.Memories.{exchange-memory, row-sound, accepted-row, answered-is}
 use Rattle.demands.proofs.Refusals.{by-sheet, by-state}
 use Rattle.demands.proofs.Shown.{places-from}

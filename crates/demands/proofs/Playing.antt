@@ -30,12 +30,12 @@ use Rattle.demands.specs.Replays.{callsOf, Alike, Playable, ReplayPlays,
 use Rattle.demands.specs.Sequences.{callOf, runOf}
 use Rattle.demands.proofs.Agreed.{traces-have-replies}
 use Rattle.demands.proofs.Lengths.{memory-keeps-its-length}
-use Rattle.demands.proofs.Lists.{part-length}
+use Rattle.octets.proofs.Overlaid.{part-length}
 use Rattle.demands.proofs.Memories.{answered-is}
 use Rattle.demands.proofs.Reached.{secrets-in-replay}
 use Rattle.demands.proofs.Refusals.{by-sheet, by-state}
 use Rattle.demands.proofs.Replays.{Played, ended, differed, agreed, played}
-use Rattle.demands.proofs.States.{outcome-valid, outcome-on}
+use Rattle.machine.proofs.Nexts.{outcome-valid, outcome-on}
 
 pub replay-plays : ReplayPlays
 unfolding replayOf

@@ -19,7 +19,7 @@ use Rattle.demands.specs.Replays.{callsOf, ours, agreeing, RepliesOf, Se
 use Rattle.demands.specs.Sequences.{Call, Reset, Enable, Exchange, callOf, runOf, lastMemory}
 use Rattle.demands.specs.Writes.{Reached}
 use Rattle.demands.proofs.Folded.{memory-behind}
-use Rattle.demands.proofs.Lists.{still-agree}
+use Rattle.octets.proofs.Overlaid.{still-agree}
 use Rattle.demands.proofs.Owned.{writes-own-octets}
 use Rattle.demands.proofs.Replays.{reply-keeps, play-on, play-over, played}
 use Rattle.demands.proofs.Secrets.{call-kept, demand-3}

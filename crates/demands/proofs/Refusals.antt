@@ -31,7 +31,7 @@ use Rattle.slave.specs.declared.answers.Answer.{Answer}
 use Rattle.slave.proofs.Order.{no-refusal}
 use Rattle.demands.specs.Sequences.{Call, Reset, Enable, Exchange, beside, callOf, runOf}
 use Rattle.demands.specs.Refused.{Unchanged, RefusedChangesNothing, ValidRecord, EachState, StatesStayValid}
-use Rattle.demands.proofs.States.{outcome-valid}
+use Rattle.machine.proofs.Nexts.{outcome-valid}
 
 -- what holds of every refusal and of every answer that goes on, holds of the call
 module _ {A : Type 0} (Q : A → Type 0) where

@@ -19,7 +19,7 @@ use Rattle.machine.specs.declared.words.Effect.{Effect}
 use Rattle.machine.specs.declared.words.Effect.the-variants.{Quiet, Reads, Writes, Identifies, Alarms, Connects}
 use Rattle.machine.specs.declared.words.Outcome.{Outcome}
 use Rattle.demands.specs.Answered.{alarmIn}
-use Rattle.demands.proofs.Lists.{put-length, part-length}
+use Rattle.octets.proofs.Overlaid.{put-length, part-length}
 
 -- what is laid from octet 4 on leaves the four octets before it
 laid-behind : (h t s : List ℕ) → length h ≡ 4 → (k : ℕ) → putAt (h ++ t) (4 + k) s ≡ h ++ putAt t k s

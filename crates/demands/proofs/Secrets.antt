@@ -29,7 +29,7 @@ use Rattle.demands.specs.Answered.{Answered}
 use Rattle.demands.specs.Hidden.{Readable, Seen, seen, Demand3}
 use Rattle.demands.specs.Sequences.{Call, Reset, Enable, Exchange, callOf, runOf, lastMemory}
 use Rattle.demands.specs.Writes.{Wrote, ReachedBy, Reached}
-use Rattle.demands.proofs.Lists.{put-before, put-inside, put-behind, put-length, part-length, part-same}
+use Rattle.octets.proofs.Overlaid.{put-before, put-inside, put-behind, put-length, part-length, part-same}
 use Rattle.demands.proofs.Memories.{answered-is}
 use Rattle.demands.proofs.Owned.{writes-own-octets}
 use Rattle.demands.proofs.Shown.{Shows, outcome-shows}

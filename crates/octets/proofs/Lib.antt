@@ -3,3 +3,4 @@ pub mod Pick
 pub mod Cases
 pub mod Numbers
 pub mod Parts
+pub mod Overlaid

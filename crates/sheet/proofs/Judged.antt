@@ -88,6 +88,7 @@ pub record ItemRead (i : Item) (tail : Bool) (least : ℕ) (so : Counts) (n : �
   pub counts : record { regions = so .regions; parameters = so .parameters; items = so .items + 1; memory = so .memory } ≡ next
   pub some : 1 ≤ i .length
   pub most : i .length ≤ 32
+  pub zeros : tail ≡ true
   pub few : so .items < 32
   pub rises : least ≤ i .code
 
@@ -106,6 +107,7 @@ item-read i tail least so n next e =
       counts = same-counts (p₅ .1);
       some = omega arith;
       most = ltb-false 32 (i .length) (p₂ .0);
+      zeros = not-false tail (p₃ .0);
       few = leb-false 32 (so .items) (p₄ .0);
       rises = ltb-false (i .code) least (p₅ .0);
     }

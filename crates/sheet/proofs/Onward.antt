@@ -52,7 +52,7 @@ count-zero kind k n e f =
     omega arith
 
 -- what a record behind the link record that is in its place tells
-in-place : (kind : ℕ) (so : Counts) → misplacedOf false kind so ≡ false
+pub in-place : (kind : ℕ) (so : Counts) → misplacedOf false kind so ≡ false
     → (kind ≡ 1 → ⊥) × (kind ≡ 2 → so .parameters ≡ 0) × (kind ≡ 2 → so .items ≡ 0) × (kind ≡ 3 → so .items ≡ 0)
 unfolding misplacedOf
 in-place kind so m =

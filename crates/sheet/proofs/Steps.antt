@@ -42,7 +42,7 @@ unfolding itemFrom
 length-there s at = getD-drop at s 2 0
 
 -- what holds of each number below n, and of n, holds of each below n + 1
-one-more : (P : ℕ → Type 0) (n : ℕ) → ((i : ℕ) → i < n → P i) → P n → (i : ℕ) → i < n + 1 → P i
+pub one-more : (P : ℕ → Type 0) (n : ℕ) → ((i : ℕ) → i < n → P i) → P n → (i : ℕ) → i < n + 1 → P i
 one-more P n below here i h =
     ⊎-elim (λ l. below i l) (λ l. subst P (let e : n ≡ i = omega arith in e) here) (lt-or-le i n)
 

@@ -1,0 +1,165 @@
+-- What becomes of a command: the machine's outcome and the table's.
+use mathlib.Core.Bool.{Bool, true, false, not, _&&_, _||_}
+use mathlib.Core.Logic.{⊎-elim}
+use mathlib.Core.Path.{_≡_, refl, sym, ap, ap₂, subst, _∙_}
+use mathlib.Core.List.{List, [], _∷_}
+use Prim.Native.Nat.{ℕ, zero, suc, _+_, _/_, _%_, _≤_}
+use native.Mathlib.Omega.{arith}
+use borrow.Author.Tests.{ne-eqb}
+use lib.Dec.{eqb}
+use lib.ListN.{length, getD}
+use Rattle.octets.specs.Pick.{pick}
+use Rattle.octets.proofs.Cases.{eq-or-ne}
+use Rattle.frame.specs.Body.{bodyOf, memoryAfter}
+use Rattle.frame.specs.Fields.{commandOf}
+use Rattle.law.proofs.Layouts.{layoutFor}
+use Rattle.law.specs.Words.{when, oneOf, Piece, piece}
+use Rattle.law.specs.Sheet.{Sheet}
+use Rattle.law.specs.State.{link}
+use Rattle.law.specs.Memory.{readable, writable}
+use Rattle.law.specs.Table.{check, Row, row, table}
+use Rattle.law.specs.Exchange.{Fate, fate, refused, checked, judged, fateOf}
+use Rattle.link.specs.Steps.{followsOf, lost, synced, dropped}
+use Rattle.link.specs.Stored.{octetsOf}
+use Rattle.link.specs.declared.state.LinkState.{LinkState}
+use Rattle.link.proofs.Facts.{Facts}
+use Rattle.machine.specs.Codes.{isKnown, isAllowed}
+use Rattle.machine.specs.Judging.{dataOf, judgeOf}
+use Rattle.machine.specs.Outcomes.{counting, comesTo, finished, outcomeOf}
+use Rattle.machine.specs.Spans.{rightOf}
+use Rattle.octets.proofs.Pick.{pick-yes, pick-no}
+use Rattle.regions.specs.Region.{givesOf}
+use Rattle.regions.specs.declared.Right.the-variants.{WriteAsync, WriteSync}
+use Rattle.machine.specs.declared.words.Effect.the-variants.{Quiet}
+use Rattle.machine.specs.declared.words.Judgement.{Judgement}
+use Rattle.machine.specs.declared.words.Judgement.the-variants.{Refused, Accepted}
+use Rattle.law.proofs.Laid.{over-none, when-no}
+use Rattle.law.proofs.Goes.{in-links, Goes, goes-dropped, goes-synced, goes-lost}
+use Rattle.law.proofs.Rows as rows
+use Rattle.law.proofs.World.{World}
+use Rattle.law.proofs.Rows.{Same, J, refusing, via, step, quiet, kept, unmoved, alarms-row, clear-row, param-row, connect-row, mem-row, item-row}
+
+-- a code is one of the eleven, or none
+by-code : (P : ℕ → Type 0) → P 0x00 → P 0x01 → P 0x02 → P 0x03 → P 0x05 → P 0x06 → P 0x0D → P 0x0E → P 0x0F → P 0x1D → P 0x1E
+    → ((n : ℕ) → (n ≡ 0x00 → ⊥) → (n ≡ 0x01 → ⊥) → (n ≡ 0x02 → ⊥) → (n ≡ 0x03 → ⊥) → (n ≡ 0x05 → ⊥) → (n ≡ 0x06 → ⊥) → (n ≡ 0x0D → ⊥) → (n ≡ 0x0E → ⊥) → (n ≡ 0x0F → ⊥) → (n ≡ 0x1D → ⊥) → (n ≡ 0x1E → ⊥) → P n) → (n : ℕ) → P n
+by-code P p0 p1 p2 p3 p4 p5 p6 p7 p8 p9 p10 q n =
+    ⊎-elim (λ (e : n ≡ 0x00). subst P (sym e) p0) (λ (z0 : n ≡ 0x00 → ⊥).
+    ⊎-elim (λ (e : n ≡ 0x01). subst P (sym e) p1) (λ (z1 : n ≡ 0x01 → ⊥).
+    ⊎-elim (λ (e : n ≡ 0x02). subst P (sym e) p2) (λ (z2 : n ≡ 0x02 → ⊥).
+    ⊎-elim (λ (e : n ≡ 0x03). subst P (sym e) p3) (λ (z3 : n ≡ 0x03 → ⊥).
+    ⊎-elim (λ (e : n ≡ 0x05). subst P (sym e) p4) (λ (z4 : n ≡ 0x05 → ⊥).
+    ⊎-elim (λ (e : n ≡ 0x06). subst P (sym e) p5) (λ (z5 : n ≡ 0x06 → ⊥).
+    ⊎-elim (λ (e : n ≡ 0x0D). subst P (sym e) p6) (λ (z6 : n ≡ 0x0D → ⊥).
+    ⊎-elim (λ (e : n ≡ 0x0E). subst P (sym e) p7) (λ (z7 : n ≡ 0x0E → ⊥).
+    ⊎-elim (λ (e : n ≡ 0x0F). subst P (sym e) p8) (λ (z8 : n ≡ 0x0F → ⊥).
+    ⊎-elim (λ (e : n ≡ 0x1D). subst P (sym e) p9) (λ (z9 : n ≡ 0x1D → ⊥).
+    ⊎-elim (λ (e : n ≡ 0x1E). subst P (sym e) p10) (λ (z10 : n ≡ 0x1E → ⊥).
+    q n z0 z1 z2 z3 z4 z5 z6 z7 z8 z9 z10) (eq-or-ne n 0x1E)) (eq-or-ne n 0x1D)) (eq-or-ne n 0x0F)) (eq-or-ne n 0x0E)) (eq-or-ne n 0x0D)) (eq-or-ne n 0x06)) (eq-or-ne n 0x05)) (eq-or-ne n 0x03)) (eq-or-ne n 0x02)) (eq-or-ne n 0x01)) (eq-or-ne n 0x00)
+
+and-first : (a b : Bool) → a && b ≡ true → a ≡ true
+and-first true b e = refl
+and-first false b e = e
+
+ors : {a b x y : Bool} → a ≡ x → b ≡ y → a || b ≡ x || y
+ors p q = ap₂ _||_ p q
+
+not-known : (n : ℕ) → (n ≡ 0x00 → ⊥) → (n ≡ 0x01 → ⊥) → (n ≡ 0x02 → ⊥) → (n ≡ 0x03 → ⊥) → (n ≡ 0x05 → ⊥) → (n ≡ 0x06 → ⊥) → (n ≡ 0x0D → ⊥) → (n ≡ 0x0E → ⊥) → (n ≡ 0x0F → ⊥) → (n ≡ 0x1D → ⊥) → (n ≡ 0x1E → ⊥) → isKnown n ≡ false
+unfolding isKnown
+not-known n z0 z1 z2 z3 z4 z5 z6 z7 z8 z9 z10 =
+    ap₂ _||_ (ap₂ _||_ (ap₂ _||_ (ap₂ _||_ (ap₂ _||_ (ap₂ _||_ (ap₂ _||_ (ap₂ _||_ (ap₂ _||_ (ap₂ _||_ (ne-eqb n 0x00 z0) (ne-eqb n 0x01 z1)) (ne-eqb n 0x02 z2)) (ne-eqb n 0x03 z3)) (ne-eqb n 0x05 z4)) (ne-eqb n 0x06 z5)) (ne-eqb n 0x0D z6)) (ne-eqb n 0x0E z7)) (ne-eqb n 0x0F z8)) (ne-eqb n 0x1D z9)) (ne-eqb n 0x1E z10)
+
+abbrev nth : List Row → ℕ → Row
+nth [] i = row 0 [] [] [] [] []
+nth (r ∷ rs) zero = r
+nth (r ∷ rs) (suc i) = nth rs i
+
+module _ (h : Sheet) (sheet : List ℕ) (st : LinkState) (m c : List ℕ) (facts : Facts (h .l) st) (on : st .link ≡ 0 → ⊥) (world : World h sheet m) (asked : length c ≡ h .l) where
+  abbrev s : List ℕ
+  s = octetsOf st
+
+  -- the rows' relation, and how it goes on, here
+  abbrev Is : Judgement → Fate → Type 0
+  Is = J h sheet st m c facts on world asked
+
+  via-here : {j k : Judgement} {f : Fate} → j ≡ k → Is k f → Is j f
+  via-here = via h sheet st m c facts on world asked
+
+  step-here : (t b : Bool) (a : ℕ) {y : Judgement} {f : Fate} → t ≡ not b → (b ≡ true → Is y f) → Is (pick t (Refused a) y) (when b f (refused s a))
+  step-here = step h sheet st m c facts on world asked
+
+  quiet-here : (next : LinkState) (ps : List Piece) → Goes st (counting st next (getD c 1 0 % 16)) (getD c 1 0 % 16) ps → Is (Accepted Quiet next) (fate 0 ps [] [])
+  quiet-here = quiet h sheet st m c facts on world asked
+
+  -- a known code: its row
+  known : (k : ℕ) (d : Judgement) (r : Row) → isKnown k ≡ true → isAllowed (st .link) k ≡ oneOf (link s) (r .links) → dataOf sheet (layoutFor h) st (rows.cmd h sheet st m c facts on world asked k) ≡ d
+      → judged s k (table h s m c) ≡ checked s (check (oneOf (link s) (r .links)) 12 0 ∷ r .checks) r
+      → (oneOf (link s) (r .links) ≡ true → Is d (checked s (r .checks) r)) → Is (judgeOf sheet (layoutFor h) st (rows.cmd h sheet st m c facts on world asked k)) (judged s k (table h s m c))
+  unfolding judgeOf checked
+  known k d r e₁ e₂ e₃ e₄ g =
+      subst (λ (f : Fate). Is (judgeOf sheet (layoutFor h) st (rows.cmd h sheet st m c facts on world asked k)) f) (sym e₄)
+      (via-here (pick-no _ _ (ap not e₁))
+      (step-here _ _ 12 (ap not e₂) (λ a. via-here e₃ (g a))))
+
+  read-is : (x : ℕ) → readable x ≡ givesOf x (rightOf false (st .link))
+  unfolding givesOf rightOf
+  read-is x = ap (λ (y : ℕ). eqb (y % 2) 1) (let e : x / 1 ≡ x = omega arith in e)
+
+  write-at : (b : Bool) (x : ℕ) → when b (eqb (x / 4 % 2) 1) (eqb (x / 2 % 2) 1) ≡ givesOf x (pick b WriteSync WriteAsync)
+  unfolding givesOf when pick
+  write-at true x = refl
+  write-at false x = refl
+
+  write-is : (x : ℕ) → writable (link s) x ≡ givesOf x (rightOf true (st .link))
+  unfolding octetsOf rightOf
+  write-is x = write-at (eqb (st .link) 3) x
+
+  -- which link allows which code
+  allows : (k : ℕ) (ns : List ℕ) → isAllowed 1 k ≡ oneOf 1 ns → isAllowed 2 k ≡ oneOf 2 ns → isAllowed 3 k ≡ oneOf 3 ns → isAllowed (st .link) k ≡ oneOf (link s) ns
+  unfolding octetsOf
+  allows k ns a b d = in-links (λ n. isAllowed n k ≡ oneOf n ns) a b d (st .link) (facts .link) on
+
+  unknown-code : (n : ℕ) → (n ≡ 0x00 → ⊥) → (n ≡ 0x01 → ⊥) → (n ≡ 0x02 → ⊥) → (n ≡ 0x03 → ⊥) → (n ≡ 0x05 → ⊥) → (n ≡ 0x06 → ⊥) → (n ≡ 0x0D → ⊥) → (n ≡ 0x0E → ⊥) → (n ≡ 0x0F → ⊥) → (n ≡ 0x1D → ⊥) → (n ≡ 0x1E → ⊥) → Is (judgeOf sheet (layoutFor h) st (rows.cmd h sheet st m c facts on world asked n)) (judged s n (table h s m c))
+  unfolding judgeOf judged
+  unknown-code n z0 z1 z2 z3 z4 z5 z6 z7 z8 z9 z10 =
+      via-here (pick-yes _ _ (ap not (not-known n z0 z1 z2 z3 z4 z5 z6 z7 z8 z9 z10)))
+      (subst (λ (f : Fate). Is (Refused 8) f) (sym (
+      when-no _ _ (ne-eqb n 0x00 z0) ∙ when-no _ _ (ne-eqb n 0x01 z1) ∙ when-no _ _ (ne-eqb n 0x02 z2) ∙ when-no _ _ (ne-eqb n 0x03 z3) ∙ when-no _ _ (ne-eqb n 0x05 z4) ∙ when-no _ _ (ne-eqb n 0x06 z5) ∙ when-no _ _ (ne-eqb n 0x0D z6) ∙ when-no _ _ (ne-eqb n 0x0E z7) ∙ when-no _ _ (ne-eqb n 0x0F z8) ∙ when-no _ _ (ne-eqb n 0x1D z9) ∙ when-no _ _ (ne-eqb n 0x1E z10)))
+      (refusing h sheet st m c facts on world asked 8))
+
+  judge-same : (n : ℕ) → Is (judgeOf sheet (layoutFor h) st (rows.cmd h sheet st m c facts on world asked n)) (judged s n (table h s m c))
+  unfolding isKnown isAllowed dataOf judged pick when checked
+  judge-same =
+      by-code (λ n. Is (judgeOf sheet (layoutFor h) st (rows.cmd h sheet st m c facts on world asked n)) (judged s n (table h s m c)))
+      (known 0x00 _ (nth (table h s m c) 0) refl (allows 0x00 (1 ∷ 2 ∷ 3 ∷ []) refl refl refl) refl refl (λ a. quiet-here st [] (kept h sheet st m c facts on world asked)))
+      (known 0x01 _ (nth (table h s m c) 1) refl (allows 0x01 (2 ∷ 3 ∷ []) refl refl refl) refl refl (λ a. param-row h sheet st m c facts on world asked 0x01 false readable read-is 0 [] []))
+      (known 0x02 _ (nth (table h s m c) 2) refl (allows 0x02 (2 ∷ 3 ∷ []) refl refl refl) refl refl (λ a. param-row h sheet st m c facts on world asked 0x02 true (writable (link s)) write-is 0 [] []))
+      (known 0x03 _ (nth (table h s m c) 3) refl (allows 0x03 (2 ∷ 3 ∷ []) refl refl refl) refl refl (λ a. item-row h sheet st m c facts on world asked 0x03 0 [] []))
+      (known 0x05 _ (nth (table h s m c) 4) refl (allows 0x05 (2 ∷ 3 ∷ []) refl refl refl) refl refl (λ a. alarms-row h sheet st m c facts on world asked 0x05 0 [] []))
+      (known 0x06 _ (nth (table h s m c) 5) refl (allows 0x06 (2 ∷ 3 ∷ []) refl refl refl) refl refl (λ a. clear-row h sheet st m c facts on world asked 0x06 0 [] []))
+      (known 0x0D _ (nth (table h s m c) 6) refl (allows 0x0D (2 ∷ []) refl refl refl) refl refl (λ a. quiet-here (synced st) _ (goes-synced (getD c 1 0 % 16) st facts on a)))
+      (known 0x0E _ (nth (table h s m c) 7) refl (allows 0x0E (1 ∷ []) refl refl refl) refl refl (λ a. connect-row h sheet st m c facts on world asked 0x0E 0 [] [] a))
+      (known 0x0F _ (nth (table h s m c) 8) refl (allows 0x0F (1 ∷ 2 ∷ 3 ∷ []) refl refl refl) refl refl (λ a. quiet-here (dropped st) _ (goes-dropped (getD c 1 0 % 16) st facts on)))
+      (known 0x1D _ (nth (table h s m c) 9) refl (allows 0x1D (2 ∷ 3 ∷ []) refl refl refl) refl refl (λ a. mem-row h sheet st m c facts on world asked 0x1D false readable read-is 0 [] []))
+      (known 0x1E _ (nth (table h s m c) 10) refl (allows 0x1E (2 ∷ 3 ∷ []) refl refl refl) refl refl (λ a. mem-row h sheet st m c facts on world asked 0x1E true (writable (link s)) write-is 0 [] []))
+      unknown-code
+
+  -- check 1
+  lost-or : (b : Bool) {y : Judgement} {f : Fate} → (b ≡ true → eqb (link s) 3 ≡ true) → Is y f
+      → Same h sheet st m c (pick b (comesTo 0 Quiet (lost st)) (finished st (commandOf c) y)) (when b (fate 0 (piece 1 (2 ∷ []) ∷ piece 9 (12 ∷ []) ∷ []) [] []) f)
+  unfolding pick when bodyOf memoryAfter
+  lost-or true g k =
+      record { alarm = refl; next = goes-lost (getD c 1 0 % 16) st facts on (g refl); body = λ d e. sym (over-none 0 d); memory = unmoved h sheet st m c facts on world asked }
+  lost-or false g k = k .same
+
+  -- "Link 3 with MN known": MN known is 0 or 1
+  follows : (known : ℕ) → known ≤ 1 → (b : Bool) → not (eqb known 0 || b) ≡ eqb known 1 && not b
+  follows zero l b = refl
+  follows (suc zero) l b = refl
+  follows (suc (suc n)) l b = absurd (let w : ⊥ = omega arith in w)
+
+  pub outcome-same : Same h sheet st m c (outcomeOf sheet (layoutFor h) st (commandOf c)) (fateOf h s m c)
+  unfolding outcomeOf fateOf followsOf commandOf octetsOf
+  outcome-same =
+      subst (λ (b : Bool). Same h sheet st m c (pick (eqb (st .link) 3 && b) (comesTo 0 Quiet (lost st)) (finished st (commandOf c) (judgeOf sheet (layoutFor h) st (commandOf c)))) (fateOf h s m c))
+      (sym (follows (st .watch .known) (facts .known) (eqb (getD c 1 0 % 16) ((st .watch .last + 1) % 16))))
+      (lost-or _ (λ e. and-first _ _ e) (judge-same (getD c 0 0)))

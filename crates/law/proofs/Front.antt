@@ -1,0 +1,271 @@
+-- The octets that the walk has read are the writing of a well-formed sheet.
+use mathlib.Core.Bool.{Bool, true, false, _||_, and-eq-true-iff, true≢false}
+use mathlib.Core.Logic.{_⊎_, inl, inr, ⊎-elim}
+use mathlib.Core.Path.{_≡_, refl, sym, ap, ap₂, _∙_}
+use mathlib.Core.List.{List, [], _∷_, _++_}
+use Prim.Native.Nat.{ℕ, zero, suc, _+_, _-_, _*_, _≤_, _<_}
+use native.Mathlib.Nat.{sub-zero, zero-sub, suc-sub-suc}
+use native.Mathlib.Omega.{arith}
+use borrow.Author.Tests.{eqb-true}
+use lib.Dec.{eqb}
+use lib.ListN.{length, getD, take, drop, length-drop, take-append-drop}
+use lib.Seq.{getD-drop, drop-drop, take-nil, length-take-le}
+use Rattle.octets.specs.Parts.{allZero}
+use Rattle.octets.proofs.Cases.{decided}
+use Rattle.octets.proofs.Pick.{pick-no}
+use Rattle.regions.specs.Region.{regionFrom, regionAt, regionsOf, listed, holdsOf, givesOf}
+use Rattle.regions.specs.Search.{totalOf, grantsOf}
+use Rattle.regions.specs.declared.Region.{Region}
+use Rattle.regions.specs.declared.Right.the-variants.{Mapped}
+use Rattle.regions.proofs.Bounds.{holds-bounds}
+use Rattle.regions.proofs.Spans.{all-before}
+use Rattle.sheet.specs.Entries.{parameterFrom, parameterAt, itemFrom}
+use Rattle.sheet.specs.Kinds.{isLength}
+use Rattle.sheet.specs.Reading.{tailOf}
+use Rattle.sheet.specs.Walk.{layoutOf}
+use Rattle.sheet.specs.Sound.{Sound, behind}
+use Rattle.sheet.specs.declared.entries.Parameter.{Parameter}
+use Rattle.sheet.specs.declared.records.Counts.{Counts}
+use Rattle.sheet.proofs.Steps.{region-there, parameter-there}
+use Rattle.law.specs.Words.{Every, Some, joined}
+use Rattle.law.specs.Sheet.{Item as Ident, Sheet, GoodRegion, GoodParameter, GoodItem, WellFormed, FiveLengths, IsOctet, Has, regionOctets, parameterOctets, itemOctets, written, room}
+use Rattle.law.proofs.Written.{two-octets, four-octets, opened}
+use Rattle.law.proofs.Marks.{Marked}
+use Rattle.law.proofs.Layouts.{layoutFor, asArea, asParam, identFrom}
+use Rattle.law.proofs.Listed.{every-listed, row-listed, length-listed, all-listed}
+
+-- a record, cut from octets
+module _ (l : List ℕ) (o : (i : ℕ) → getD l i 0 < 256) where
+  pub cut-area : 10 ≤ length l → getD l 0 0 ≡ 2 → l ≡ regionOctets (asArea (regionFrom l 0)) ++ drop 10 l
+  unfolding listed regionFrom
+  cut-area h k =
+      let a = sym (four-octets _ _ _ _ (o 1) (o 2) (o 3) (o 4)) in
+      let b = sym (four-octets _ _ _ _ (o 5) (o 6) (o 7) (o 8)) in
+      opened l 0 10 h ∙ λ i. k i ∷ a i ++ b i ++ getD l 9 0 ∷ [] ++ drop 10 l
+
+  pub cut-param : 8 ≤ length l → getD l 0 0 ≡ 3 → l ≡ parameterOctets (asParam (parameterFrom l 0)) ++ drop 8 l
+  unfolding listed parameterFrom
+  cut-param h k =
+      let a = sym (two-octets _ _ (o 1) (o 2)) in
+      let b = sym (four-octets _ _ _ _ (o 3) (o 4) (o 5) (o 6)) in
+      opened l 0 8 h ∙ λ i. k i ∷ a i ++ b i ++ getD l 7 0 ∷ [] ++ drop 8 l
+
+  pub cut-ident : 35 ≤ length l → getD l 0 0 ≡ 4 → l ≡ itemOctets (identFrom l 0) ++ drop 35 l
+  unfolding listed
+  cut-ident h k =
+      opened l 0 3 (omega arith)
+      ∙ ap (λ (x : ℕ). x ∷ getD l 1 0 ∷ getD l 2 0 ∷ drop 3 l) k
+      ∙ ap (λ (t : List ℕ). 4 ∷ getD l 1 0 ∷ getD l 2 0 ∷ t) (sym (take-append-drop 32 (drop 3 l)) ∙ ap (λ (t : List ℕ). take 32 (drop 3 l) ++ t) (drop-drop 32 3 l))
+
+or-true : (a b : Bool) → a || b ≡ true → (a ≡ true) ⊎ (b ≡ true)
+or-true true b e = inl refl
+or-true false b e = inr e
+
+pub five-back : (l : ℕ) → isLength l ≡ true → FiveLengths l
+unfolding isLength
+five-back l e =
+    ⊎-elim
+    (λ e₄. ⊎-elim
+    (λ e₃. ⊎-elim
+    (λ e₂. ⊎-elim (λ e₁. inl (eqb-true l 8 e₁)) (λ d. inr (inl (eqb-true l 16 d))) (or-true (eqb l 8) (eqb l 16) e₂))
+    (λ d. inr (inr (inl (eqb-true l 32 d)))) (or-true (eqb l 8 || eqb l 16) (eqb l 32) e₃))
+    (λ d. inr (inr (inr (inl (eqb-true l 48 d))))) (or-true (eqb l 8 || eqb l 16 || eqb l 32) (eqb l 48) e₄))
+    (λ d. inr (inr (inr (inr (eqb-true l 64 d))))) (or-true (eqb l 8 || eqb l 16 || eqb l 32 || eqb l 48) (eqb l 64) e)
+
+pub zeros-back : (l : List ℕ) → allZero l ≡ true → Every (λ (x : ℕ). x ≡ 0) l
+unfolding allZero
+zeros-back [] e = tt
+zeros-back (x ∷ xs) e = let b = and-eq-true-iff (eqb x 0) (allZero xs) .0 e in (eqb-true x 0 (b .0), zeros-back xs (b .1))
+
+pub drop-take : (m n : ℕ) (l : List ℕ) → drop m (take n l) ≡ take (n - m) (drop m l)
+drop-take zero n l = ap (λ (k : ℕ). take k l) (sym (sub-zero n))
+drop-take (suc m) zero l = ap (λ (k : ℕ). take k (drop (suc m) l)) (sym (zero-sub (suc m)))
+drop-take (suc m) (suc n) [] = sym (take-nil (suc n - suc m))
+drop-take (suc m) (suc n) (x ∷ xs) = drop-take m n xs ∙ ap (λ (k : ℕ). take k (drop m xs)) (sym (suc-sub-suc n m))
+
+-- an address that the search finds is in a region of the paper
+pub grants-has : (f : ℕ → Region) (k m a : ℕ) → grantsOf (listed f k m) Mapped a ≡ true → Some (Has a) (listed (λ (i : ℕ). asArea (f i)) k m)
+unfolding grantsOf givesOf listed
+grants-has f k zero a e = absurd (true≢false (sym e))
+grants-has f k (suc m) a e =
+    ⊎-elim
+    (λ (h : holdsOf (f k) a ≡ true). inl (holds-bounds (f k) a h))
+    (λ (h : holdsOf (f k) a ≡ false). inr (grants-has f (suc k) m a (sym (pick-no _ _ h) ∙ e)))
+    (decided (holdsOf (f k) a))
+
+pub sum-listed : (f : ℕ → Region) (k m : ℕ) → room (listed (λ (i : ℕ). asArea (f i)) k m) ≡ totalOf (listed f k m)
+unfolding totalOf listed
+sum-listed f k zero = refl
+sum-listed f k (suc m) = ap (λ (n : ℕ). f k .length + n) (sum-listed f (suc k) m)
+
+pub octet-at : (s : List ℕ) → Every IsOctet s → (i : ℕ) → getD s i 0 < 256
+octet-at [] o i = omega arith
+octet-at (x ∷ xs) o zero = o .0
+octet-at (x ∷ xs) o (suc i) = octet-at xs (o .1) i
+
+pub octets-drop : (n : ℕ) (s : List ℕ) → Every IsOctet s → Every IsOctet (drop n s)
+octets-drop zero s o = o
+octets-drop (suc n) [] o = tt
+octets-drop (suc n) (x ∷ xs) o = octets-drop n xs (o .1)
+
+pub octets-take : (n : ℕ) (s : List ℕ) → Every IsOctet s → Every IsOctet (take n s)
+octets-take zero s o = tt
+octets-take (suc n) [] o = tt
+octets-take (suc n) (x ∷ xs) o = (o .0, octets-take n xs (o .1))
+
+-- the sheet that the first records of octets are
+abbrev pub readSheet : List ℕ → Counts → Sheet
+readSheet s so = record {
+  l = getD s 1 0;
+  version = getD s 2 0;
+  profile = getD s 3 0;
+  regions = listed (λ (i : ℕ). asArea (regionAt s i)) 0 (so .regions);
+  parameters = listed (λ (j : ℕ). asParam (parameterAt s (so .regions) j)) 0 (so .parameters);
+  items = listed (λ (k : ℕ). identFrom s (4 + 10 * so .regions + 8 * so .parameters + 35 * k)) 0 (so .items);
+}
+
+module _ (s : List ℕ) (octs : Every IsOctet s) where
+  o : (i : ℕ) → getD s i 0 < 256
+  o = octet-at s octs
+
+  od : (at i : ℕ) → getD (drop at s) i 0 < 256
+  od at = octet-at (drop at s) (octets-drop at s octs)
+
+  first-of : (at : ℕ) → getD (drop at s) 0 0 ≡ getD s at 0
+  first-of at = getD-drop at s 0 0 ∙ ap (λ (i : ℕ). getD s i 0) (let e : at + 0 ≡ at = omega arith in e)
+
+  -- each record of the sheet, at its place
+  area-cut : (at : ℕ) → at + 10 ≤ length s → getD s at 0 ≡ 2 → drop at s ≡ regionOctets (asArea (regionFrom s at)) ++ drop (at + 10) s
+  area-cut at h k =
+      let d = length-drop at s in
+      cut-area (drop at s) (od at) (omega arith) (first-of at ∙ k)
+      ∙ ap₂ (λ (r : Region) (t : List ℕ). regionOctets (asArea r) ++ t) (region-there s at) (drop-drop 10 at s)
+
+  param-cut : (at : ℕ) → at + 8 ≤ length s → getD s at 0 ≡ 3 → drop at s ≡ parameterOctets (asParam (parameterFrom s at)) ++ drop (at + 8) s
+  param-cut at h k =
+      let d = length-drop at s in
+      cut-param (drop at s) (od at) (omega arith) (first-of at ∙ k)
+      ∙ ap₂ (λ (p : Parameter) (t : List ℕ). parameterOctets (asParam p) ++ t) (parameter-there s at) (drop-drop 8 at s)
+
+  ident-there : (at : ℕ) → identFrom (drop at s) 0 ≡ identFrom s at
+  ident-there at =
+      let a = getD-drop at s 1 0 in
+      let b = getD-drop at s 2 0 in
+      let c = ap (take 32) (drop-drop 3 at s) in
+      λ i. record { code = a i; length = b i; octets = c i }
+
+  ident-cut : (at : ℕ) → at + 35 ≤ length s → getD s at 0 ≡ 4 → drop at s ≡ itemOctets (identFrom s at) ++ drop (at + 35) s
+  ident-cut at h k =
+      let d = length-drop at s in
+      cut-ident (drop at s) (od at) (omega arith) (first-of at ∙ k)
+      ∙ ap₂ (λ (p : Ident) (t : List ℕ). itemOctets p ++ t) (ident-there at) (drop-drop 35 at s)
+
+  module _ (so : Counts) (at : ℕ) (ok : Sound s at so) (mk : Marked s at so) (here : at ≡ behind so) (inside : at ≤ length s)
+      (five : isLength (getD s 1 0) ≡ true) where
+    good-area : (i : ℕ) → i < so .regions → GoodRegion (asArea (regionAt s i))
+    unfolding regionFrom
+    good-area i h =
+        let g = ok .regions-fine i h in
+        let b = 4 + 10 * i in
+        let o₁ = o (b + 5) in
+        let o₂ = o (b + 5 + 1) in
+        let o₃ = o (b + 5 + 2) in
+        let o₄ = o (b + 5 + 3) in
+        record { start = omega (arith, g .some, g .ends); length = omega arith; some = g .some; ends = g .ends; bits = g .bits }
+
+    good-param : (j : ℕ) → j < so .parameters → GoodParameter (readSheet s so .regions) (asParam (parameterAt s (so .regions) j))
+    unfolding parameterFrom
+    good-param j h =
+        let g = ok .parameters-fine j h in
+        let p = parameterAt s (so .regions) j in
+        let b = 4 + 10 * so .regions + 8 * j in
+        let n₁ = o (b + 1) in
+        let n₂ = o (b + 1 + 1) in
+        let o₁ = o (b + 3) in
+        let o₂ = o (b + 3 + 1) in
+        let o₃ = o (b + 3 + 2) in
+        let o₄ = o (b + 3 + 3) in
+        record {
+          number = omega (arith, n₁, n₂);
+          address = omega (arith, o₁, o₂, o₃, o₄);
+          some = g .some;
+          most = g .most;
+          spans = λ a l u. grants-has (regionAt s) 0 (so .regions) a (all-before (regionsOf s (so .regions)) Mapped (p .address) (p .size) (g .mapped) a l u);
+        }
+
+    good-ident : (k : ℕ) → k < so .items → GoodItem (identFrom s (4 + 10 * so .regions + 8 * so .parameters + 35 * k))
+    unfolding itemFrom
+    good-ident k h =
+        let g = ok .items-fine k h in
+        let b = 4 + 10 * so .regions + 8 * so .parameters + 35 * k in
+        let z = getD s (b + 2) 0 in
+        let d = length-drop (b + 3) s in
+        let e : tailOf (drop b s) ≡ drop z (take 32 (drop (b + 3) s)) =
+        ap (λ (n : ℕ). take (32 - n) (drop (3 + n) (drop b s))) (getD-drop b s 2 0)
+        ∙ ap (take (32 - z)) (sym (drop-drop z 3 (drop b s)) ∙ ap (drop z) (drop-drop 3 b s))
+        ∙ sym (drop-take z 32 (drop (b + 3) s)) in
+        record {
+          code = o (b + 1);
+          some = g .some;
+          most = g .most;
+          room = length-take-le 32 (drop (b + 3) s) (omega arith);
+          octets = octets-take 32 (drop (b + 3) s) (octets-drop (b + 3) s octs);
+          zeros = zeros-back _ (ap allZero (sym e) ∙ mk .items k h .1);
+        }
+
+    rising : (i : ℕ) → suc i < so .items
+        → identFrom s (4 + 10 * so .regions + 8 * so .parameters + 35 * i) .code < identFrom s (4 + 10 * so .regions + 8 * so .parameters + 35 * suc i) .code
+    unfolding itemFrom
+    rising i h = ok .items-rise i h
+
+    pub front-good : WellFormed (readSheet s so)
+    front-good =
+        let r = so .regions in
+        let p = so .parameters in
+        let k = so .items in
+        record {
+          l = five-back (getD s 1 0) five;
+          version = o 2;
+          profile = o 3;
+          regions = every-listed _ GoodRegion 0 r (λ i l u. good-area i (omega arith));
+          parameters = every-listed _ (GoodParameter (readSheet s so .regions)) 0 p (λ i l u. good-param i (omega arith));
+          items = every-listed _ GoodItem 0 k (λ i l u. good-ident i (omega arith));
+          apart = row-listed _ _ r (λ i h. ok .regions-rise i h);
+          numbers-rise = row-listed _ _ p (λ i h. ok .parameters-rise i h);
+          codes-rise = row-listed _ _ k rising;
+          few-regions = rw (length-listed (λ (i : ℕ). asArea (regionAt s i)) 0 r) (ok .few-regions);
+          few-parameters = rw (length-listed (λ (j : ℕ). asParam (parameterAt s r j)) 0 p) (ok .few-parameters);
+          few-items = rw (length-listed (λ (j : ℕ). identFrom s (4 + 10 * r + 8 * p + 35 * j)) 0 k) (ok .few-items);
+          memory = let e = sum-listed (regionAt s) 0 r in omega (arith, e, ok .memory-sum, ok .memory-room);
+        }
+
+    pub front-written : s ≡ written (readSheet s so) (drop at s)
+    unfolding listed
+    front-written =
+        let r = so .regions in
+        let p = so .parameters in
+        let k = so .items in
+        let a : drop 4 s ≡ joined regionOctets (readSheet s so .regions) ++ drop (4 + 10 * r) s =
+        all-listed _ regionOctets s 4 10 r (λ i h. area-cut (4 + 10 * i) (omega arith) (mk .regions i h)) in
+        let b : drop (4 + 10 * r) s ≡ joined parameterOctets (readSheet s so .parameters) ++ drop (4 + 10 * r + 8 * p) s =
+        all-listed _ parameterOctets s (4 + 10 * r) 8 p (λ i h. param-cut (4 + 10 * r + 8 * i) (omega arith) (mk .parameters i h)) in
+        let c : drop (4 + 10 * r + 8 * p) s ≡ joined itemOctets (readSheet s so .items) ++ drop (behind so) s =
+        all-listed _ itemOctets s (4 + 10 * r + 8 * p) 35 k (λ i h. ident-cut (4 + 10 * r + 8 * p + 35 * i) (omega arith) (mk .items i h .0)) in
+        let d : drop (behind so) s ≡ drop at s = ap (λ (i : ℕ). drop i s) (sym here) in
+        opened s 0 4 (omega arith)
+        ∙ ap₂ (λ (x : ℕ) (t : List ℕ). x ∷ getD s 1 0 ∷ getD s 2 0 ∷ getD s 3 0 ∷ t) (mk .link (omega arith))
+        (a ∙ ap (λ (t : List ℕ). joined regionOctets (readSheet s so .regions) ++ t)
+        (b ∙ ap (λ (t : List ℕ). joined parameterOctets (readSheet s so .parameters) ++ t)
+        (c ∙ ap (λ (t : List ℕ). joined itemOctets (readSheet s so .items) ++ t) d)))
+
+    pub layout-read : layoutOf s so ≡ layoutFor (readSheet s so)
+    unfolding layoutOf
+    layout-read =
+        let r = so .regions in
+        let p = so .parameters in
+        let k = so .items in
+        let a = sym (length-listed (λ (i : ℕ). asArea (regionAt s i)) 0 r) in
+        let b = sym (length-listed (λ (j : ℕ). asParam (parameterAt s r j)) 0 p) in
+        let c = sym (length-listed (λ (j : ℕ). identFrom s (4 + 10 * r + 8 * p + 35 * j)) 0 k) in
+        let m = ok .memory-sum ∙ sym (sum-listed (regionAt s) 0 r) in
+        λ i. record { l = getD s 1 0; version = getD s 2 0; profile = getD s 3 0; regions = a i; parameters = b i; items = c i; memory = m i }

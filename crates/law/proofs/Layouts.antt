@@ -1,0 +1,47 @@
+-- What the machine keeps of a sheet, and its records as the law has them, both ways.
+use Prim.Native.Nat.{ℕ, _+_}
+use Rattle.law.specs.Sheet.{Region as Area, Parameter as Param, Item as Ident, Sheet, room}
+use Rattle.law.specs.Sheet.{Region as Area, Parameter as Param, Item as Ident, Sheet, room}
+use Rattle.law.specs.Sheet.{Sheet, room}
+use Rattle.regions.specs.declared.Region.{Region}
+use Rattle.sheet.specs.declared.entries.Parameter.{Parameter}
+use Rattle.sheet.specs.declared.records.Counts.{Counts}
+use Rattle.sheet.specs.declared.walk.Layout.{Layout}
+use lib.ListN.{length, getD, take, drop}
+use lib.ListN.{length, getD, take, drop}
+use lib.ListN.{length}
+use mathlib.Core.List.{List}
+use mathlib.Core.List.{List}
+
+abbrev pub layoutFor : Sheet → Layout
+layoutFor h = record {
+  l = h .l;
+  version = h .version;
+  profile = h .profile;
+  regions = length (h .regions);
+  parameters = length (h .parameters);
+  items = length (h .items);
+  memory = room (h .regions);
+}
+
+abbrev pub counts : ℕ → ℕ → ℕ → ℕ → Counts
+counts n p k m = record { regions = n; parameters = p; items = k; memory = m }
+
+-- the counts of a sheet's records
+abbrev pub countsFor : Sheet → Counts
+countsFor h = counts (length (h .regions)) (length (h .parameters)) (length (h .items)) (room (h .regions))
+
+abbrev pub asRegion : Area → Region
+asRegion r = record { start = r .start; length = r .length; rights = r .rights }
+
+abbrev pub asParameter : Param → Parameter
+asParameter p = record { number = p .number; address = p .address; size = p .size }
+
+abbrev pub asArea : Region → Area
+asArea r = record { start = r .start; length = r .length; rights = r .rights }
+
+abbrev pub asParam : Parameter → Param
+asParam p = record { number = p .number; address = p .address; size = p .size }
+
+abbrev pub identFrom : List ℕ → ℕ → Ident
+identFrom s at = record { code = getD s (at + 1) 0; length = getD s (at + 2) 0; octets = take 32 (drop (at + 3) s) }

@@ -1,0 +1,295 @@
+-- The checks before a record's own, and the theorem: what the walk tells of a faulty sheet is what the paper tells.
+use mathlib.Core.Bool.{Bool, true, false, not, _&&_, _||_, true≢false}
+use mathlib.Core.Logic.{inl, inr, ⊎-elim, _↔_}
+use mathlib.Core.Path.{_≡_, refl, sym, ap, subst, _∙_}
+use mathlib.Core.List.{List, _++_}
+use Prim.Native.Nat.{ℕ, zero, suc, _+_, _*_, _≤_, _<_}
+use native.Mathlib.Omega.{arith}
+use borrow.Author.Tests.{eqb-true, eqb-false, ltb-true, ltb-false, eq-eqb, ne-eqb, le-ltb, not-false}
+use lib.Dec.{eqb, ltb}
+use lib.ListN.{length, getD, drop, length-drop}
+use lib.Seq.{take-at, length-take-le}
+use Rattle.octets.proofs.Cases.{decided, eq-or-ne}
+use Rattle.octets.proofs.Pick.{pick-yes, pick-no, pick-eq, pick-ne, pick-key}
+use Rattle.regions.specs.Region.{regionFrom, regionAt}
+use Rattle.sheet.specs.Entries.{parameterFrom, parameterAt}
+use Rattle.sheet.specs.Faults.{numberOf}
+use Rattle.sheet.specs.Kinds.{sizeOf, misplacedOf}
+use Rattle.sheet.specs.Reading.{linkOf, regionOf, parameterOf, itemOf, bodyOf, recordOf}
+use Rattle.sheet.specs.Sound.{Sound}
+use Rattle.sheet.specs.Walk.{none, placeOf, endedOf, verdictOf}
+use Rattle.sheet.specs.declared.records.Counts.{Counts}
+use Rattle.sheet.specs.declared.records.Fault.{Fault}
+use Rattle.sheet.specs.declared.records.Fault.the-variants.{Ended, Unknown, Misplaced, Range}
+use Rattle.sheet.specs.declared.records.Reading.the-variants.{Bad}
+use Rattle.sheet.specs.declared.walk.Layout.{Layout}
+use Rattle.sheet.specs.declared.walk.Verdict.the-variants.{Valid, Faulty}
+use Rattle.sheet.proofs.Onward.{in-place}
+use Rattle.law.specs.Words.{Every}
+use Rattle.law.specs.Sheet.{Region as Area, Parameter as Param, Item as Ident, WellFormed, IsOctet, regionOctets, parameterOctets, itemOctets, written, room}
+use Rattle.law.specs.Faults.{RegionFault, ParameterFault, ItemFault, nothing, records, InPlace, recordLength, BodyFault, RecordFault, FirstFault}
+use Rattle.law.proofs.Checks.{decides, passes, no-more, read-no-fault}
+use Rattle.law.proofs.Complete.{five}
+use Rattle.law.proofs.Written.{le2-back, le4-back}
+use Rattle.law.proofs.RecordFaults.{area-fault, param-fault, ident-fault}
+use Rattle.law.proofs.Front.{readSheet, five-back, cut-area, cut-param, cut-ident, octet-at, octets-drop, front-good, front-written, sum-listed}
+use Rattle.law.proofs.Sound.{reached, end-later}
+use Rattle.law.proofs.Layouts.{asArea, asParam, identFrom}
+use Rattle.law.proofs.Listed.{length-listed}
+
+size-same : (k : ℕ) → k ≤ 4 → sizeOf k ≡ recordLength k
+unfolding sizeOf
+size-same zero h = pick-yes _ _ refl
+size-same (suc zero) h = pick-no _ _ refl ∙ pick-yes _ _ refl
+size-same (suc (suc zero)) h = pick-no _ _ refl ∙ pick-no _ _ refl ∙ pick-yes _ _ refl
+size-same (suc (suc (suc zero))) h = pick-no _ _ refl ∙ pick-no _ _ refl ∙ pick-no _ _ refl ∙ pick-yes _ _ refl
+size-same (suc (suc (suc (suc n)))) h =
+    let k = suc (suc (suc (suc n))) in
+    let e : (j : ℕ) → j < 4 → k ≡ j → ⊥ = λ j l q. omega arith in
+    pick-ne _ _ (e 0 (omega arith)) ∙ pick-ne _ _ (e 1 (omega arith)) ∙ pick-ne _ _ (e 2 (omega arith)) ∙ pick-ne _ _ (e 3 (omega arith))
+
+or-both : (a b : Bool) → a ≡ false → b ≡ false → a || b ≡ false
+or-both true b e f = e
+or-both false b e f = f
+
+kind-free : (kind k n : ℕ) → (kind ≡ k → n ≡ 0) → eqb kind k && ltb 0 n ≡ false
+kind-free kind k n h =
+    ⊎-elim
+    (λ (e : kind ≡ k). ap (λ (b : Bool). b && ltb 0 n) (eq-eqb kind k e) ∙ le-ltb 0 n (let z = h e in omega arith))
+    (λ (e : kind ≡ k → ⊥). ap (λ (b : Bool). b && ltb 0 n) (ne-eqb kind k e))
+    (eq-or-ne kind k)
+
+place-in : (kind : ℕ) (so : Counts) → (kind ≡ 1 → ⊥) → (kind ≡ 2 → so .parameters ≡ 0) → (kind ≡ 2 → so .items ≡ 0) → (kind ≡ 3 → so .items ≡ 0)
+    → misplacedOf false kind so ≡ false
+unfolding misplacedOf
+place-in kind so a b c d =
+    or-both _ _ (or-both _ _ (or-both _ _ (ne-eqb kind 1 a) (kind-free kind 2 (so .parameters) b)) (kind-free kind 2 (so .items) c)) (kind-free kind 3 (so .items) d)
+
+le4-bound : (a b c d : ℕ) → a < 256 → b < 256 → c < 256 → d < 256 → package.Rattle.octets.specs.Numbers.le4 a b c d < 4294967296
+le4-bound a b c d x y z w = omega arith
+
+pub area-same : (r : Area) (t : List ℕ) → r .start < 4294967296 → r .length < 4294967296 → asArea (regionFrom (regionOctets r ++ t) 0) ≡ r
+unfolding regionFrom
+area-same r t a b = λ i. record { start = le4-back (r .start) a i; length = le4-back (r .length) b i; rights = r .rights }
+
+param-same : (p : Param) (t : List ℕ) → p .number < 65536 → p .address < 4294967296 → asParam (parameterFrom (parameterOctets p ++ t) 0) ≡ p
+unfolding parameterFrom
+param-same p t a b = λ i. record { number = le2-back (p .number) a i; address = le4-back (p .address) b i; size = p .size }
+
+pub ident-same : (i : Ident) (t : List ℕ) → length (i .octets) ≡ 32 → identFrom (itemOctets i ++ t) 0 ≡ i
+ident-same x t e = let o = take-at (x .octets) t 32 e in λ i. record { code = x .code; length = x .length; octets = o i }
+
+region-fits : (l : List ℕ) → ((i : ℕ) → getD l i 0 < 256) → (regionFrom l 0 .start < 4294967296) × (regionFrom l 0 .length < 4294967296)
+unfolding regionFrom
+region-fits l o = (le4-bound _ _ _ _ (o 1) (o 2) (o 3) (o 4), le4-bound _ _ _ _ (o 5) (o 6) (o 7) (o 8))
+
+parameter-fits : (l : List ℕ) → ((i : ℕ) → getD l i 0 < 256) → (parameterFrom l 0 .number < 65536) × (parameterFrom l 0 .address < 4294967296)
+unfolding parameterFrom
+parameter-fits l o = (let a = o 1 in let b = o 2 in omega arith, le4-bound _ _ _ _ (o 3) (o 4) (o 5) (o 6))
+
+module _ (s rest : List ℕ) (octs : Every IsOctet rest) (fault : Fault) where
+  pub first-fault : length rest ≡ length s → (recordOf s rest none ≡ Bad fault) ↔ RecordFault nothing rest (numberOf fault)
+  unfolding recordOf misplacedOf bodyOf linkOf numberOf
+  first-fault z =
+      let kind = getD rest 0 0 in
+      let t : eqb (length rest) (length s) ≡ true = eq-eqb (length rest) (length s) z in
+      decides _ Ended _ refl (λ b q. let l = eqb-true (length rest) 0 b in omega arith) (λ b₁.
+      let l = eqb-false (length rest) 0 b₁ in
+      passes (omega arith)
+      (decides _ Unknown _ refl (λ b q. let k = ltb-true 4 kind b in omega arith) (λ b₂.
+      passes (ltb-false 4 kind b₂)
+      (decides _ Misplaced _ refl
+      (λ b (q : kind ≡ 1). true≢false (sym b ∙ ap (λ (x : Bool). misplacedOf x kind none) t ∙ ap not (eq-eqb kind 1 q))) (λ b₃.
+      let one : kind ≡ 1 = eqb-true kind 1 (not-false _ (sym (ap (λ (x : Bool). misplacedOf x kind none) t) ∙ b₃)) in
+      let size = size-same kind (ltb-false 4 kind b₂) in
+      passes one
+      (decides _ Ended _ refl (λ b q. let k = ltb-true (length rest) (sizeOf kind) b in omega (arith, size, q, k)) (λ b₄.
+      passes (let k = ltb-false (length rest) (sizeOf kind) b₄ in omega (arith, size, k)) (link-fault one))))))))
+    where
+      link-fault : getD rest 0 0 ≡ 1 → (bodyOf (getD rest 0 0) s rest none ≡ Bad fault) ↔ BodyFault nothing rest (numberOf fault)
+      link-fault one =
+          let e : bodyOf (getD rest 0 0) s rest none ≡ linkOf rest none = pick-key 0 _ _ one refl ∙ pick-eq _ _ one in
+          let d : (linkOf rest none ≡ Bad fault) ↔ BodyFault nothing rest (numberOf fault) =
+          decides _ Range _ refl (λ b q. true≢false (sym b ∙ ap not (five (getD rest 1 0) q)))
+          (λ b. passes (five-back (getD rest 1 0) (not-false _ b)) no-more) in
+          (λ w. d .0 (sym e ∙ w), λ c. e ∙ d .1 c)
+
+  module _ (so : Counts) (good : WellFormed (readSheet s so)) (memory : room (readSheet s so .regions) ≡ so .memory) where
+    o : (i : ℕ) → getD rest i 0 < 256
+    o = octet-at rest octs
+
+    body-there : getD rest 0 0 ≤ 4 → (getD rest 0 0 ≡ 1 → ⊥) → recordLength (getD rest 0 0) ≤ length rest
+        → bodyOf (getD rest 0 0) s rest so ≡ Bad fault → BodyFault (records (readSheet s so)) rest (numberOf fault)
+    unfolding bodyOf regionOf parameterOf itemOf
+    body-there four n₁ fits w =
+        ⊎-elim
+        (λ (k : getD rest 0 0 ≡ 0). absurd (read-no-fault (sym (pick-eq _ _ k) ∙ w)))
+        (λ (n₀ : getD rest 0 0 ≡ 0 → ⊥).
+        ⊎-elim
+        (λ (k : getD rest 0 0 ≡ 2).
+        let long : 10 ≤ length rest = subst (λ (j : ℕ). recordLength j ≤ length rest) k fits in
+        let f = region-fits rest o in
+        inl (
+          asArea (regionFrom rest 0),
+          drop 10 rest,
+          cut-area rest o long k,
+          f .0,
+          f .1,
+          area-fault s so fault memory (good .numbers-rise) (regionFrom rest 0) (good .apart) (f .0) (f .1) .0
+              (sym (pick-ne _ _ n₀ ∙ pick-ne _ _ n₁ ∙ pick-eq _ _ k) ∙ w),
+        ))
+        (λ (n₂ : getD rest 0 0 ≡ 2 → ⊥).
+        ⊎-elim
+        (λ (k : getD rest 0 0 ≡ 3).
+        let long : 8 ≤ length rest = subst (λ (j : ℕ). recordLength j ≤ length rest) k fits in
+        let f = parameter-fits rest o in
+        inr (inl (
+          asParam (parameterFrom rest 0),
+          drop 8 rest,
+          cut-param rest o long k,
+          f .0,
+          f .1,
+          param-fault s so fault memory (good .numbers-rise) (parameterFrom rest 0) .0 (sym (pick-ne _ _ n₀ ∙ pick-ne _ _ n₁ ∙ pick-ne _ _ n₂ ∙ pick-eq _ _ k) ∙ w),
+        )))
+        (λ (n₃ : getD rest 0 0 ≡ 3 → ⊥).
+        let k : getD rest 0 0 ≡ 4 = omega arith in
+        let long : 35 ≤ length rest = subst (λ (j : ℕ). recordLength j ≤ length rest) k fits in
+        let d = length-drop 3 rest in
+        inr (inr (
+          identFrom rest 0,
+          drop 35 rest,
+          cut-ident rest o long k,
+          length-take-le 32 (drop 3 rest) (omega arith),
+          ident-fault s so fault memory (good .numbers-rise) rest octs long (good .codes-rise) .0
+              (sym (pick-ne _ _ n₀ ∙ pick-ne _ _ n₁ ∙ pick-ne _ _ n₂ ∙ pick-ne _ _ n₃) ∙ w),
+        )))
+        (eq-or-ne (getD rest 0 0) 3))
+        (eq-or-ne (getD rest 0 0) 2))
+        (eq-or-ne (getD rest 0 0) 0)
+
+    body-back : recordLength (getD rest 0 0) ≤ length rest → BodyFault (records (readSheet s so)) rest (numberOf fault) → bodyOf (getD rest 0 0) s rest so ≡ Bad fault
+    unfolding bodyOf regionOf parameterOf itemOf
+    body-back fits c =
+        let h = readSheet s so in
+        let f = region-fits rest o in
+        ⊎-elim
+        (λ (x : (r : Area) × (t : List ℕ) × (rest ≡ regionOctets r ++ t) × (r .start < 4294967296) × (r .length < 4294967296) × RegionFault h r (numberOf fault)).
+        let k : getD rest 0 0 ≡ 2 = ap (λ (l : List ℕ). getD l 0 0) (x .2) in
+        let e : asArea (regionFrom rest 0) ≡ x .0 = ap (λ (l : List ℕ). asArea (regionFrom l 0)) (x .2) ∙ area-same (x .0) (x .1) (x .3) (x .4) in
+        pick-key 0 _ _ k refl ∙ pick-key 1 _ _ k refl ∙ pick-eq _ _ k
+        ∙ area-fault s so fault memory (good .numbers-rise) (regionFrom rest 0) (good .apart) (f .0) (f .1) .1
+        (subst (λ (r : Area). RegionFault h r (numberOf fault)) (sym e) (x .5)))
+        (⊎-elim
+        (λ (x : (p : Param) × (t : List ℕ) × (rest ≡ parameterOctets p ++ t) × (p .number < 65536) × (p .address < 4294967296) × ParameterFault h p (numberOf fault)).
+        let k : getD rest 0 0 ≡ 3 = ap (λ (l : List ℕ). getD l 0 0) (x .2) in
+        let e : asParam (parameterFrom rest 0) ≡ x .0 = ap (λ (l : List ℕ). asParam (parameterFrom l 0)) (x .2) ∙ param-same (x .0) (x .1) (x .3) (x .4) in
+        pick-key 0 _ _ k refl ∙ pick-key 1 _ _ k refl ∙ pick-key 2 _ _ k refl ∙ pick-eq _ _ k
+        ∙ param-fault s so fault memory (good .numbers-rise) (parameterFrom rest 0) .1 (subst (λ (p : Param). ParameterFault h p (numberOf fault)) (sym e) (x .5)))
+        (λ (x : (i : Ident) × (t : List ℕ) × (rest ≡ itemOctets i ++ t) × (length (i .octets) ≡ 32) × ItemFault h i (numberOf fault)).
+        let k : getD rest 0 0 ≡ 4 = ap (λ (l : List ℕ). getD l 0 0) (x .2) in
+        let e : identFrom rest 0 ≡ x .0 = ap (λ (l : List ℕ). identFrom l 0) (x .2) ∙ ident-same (x .0) (x .1) (x .3) in
+        let long : 35 ≤ length rest = subst (λ (j : ℕ). recordLength j ≤ length rest) k fits in
+        pick-key 0 _ _ k refl ∙ pick-key 1 _ _ k refl ∙ pick-key 2 _ _ k refl ∙ pick-key 3 _ _ k refl
+        ∙ ident-fault s so fault memory (good .numbers-rise) rest octs long (good .codes-rise) .1
+        (subst (λ (i : Ident). ItemFault h i (numberOf fault)) (sym e) (x .4))))
+        c
+
+    pub later-fault : (length rest ≡ length s → ⊥) → (recordOf s rest so ≡ Bad fault) ↔ RecordFault (records (readSheet s so)) rest (numberOf fault)
+    unfolding recordOf numberOf
+    later-fault away =
+        let kind = getD rest 0 0 in
+        let r = so .regions in
+        let np = length-listed (λ (j : ℕ). asParam (parameterAt s r j)) 0 (so .parameters) in
+        let ni = length-listed (λ (j : ℕ). identFrom s (4 + 10 * r + 8 * so .parameters + 35 * j)) 0 (so .items) in
+        let t : eqb (length rest) (length s) ≡ false = ne-eqb (length rest) (length s) away in
+        decides _ Ended _ refl (λ b q. let l = eqb-true (length rest) 0 b in omega arith) (λ b₁.
+        let l = eqb-false (length rest) 0 b₁ in
+        passes (omega arith)
+        (decides _ Unknown _ refl (λ b q. let k = ltb-true 4 kind b in omega arith) (λ b₂.
+        passes (ltb-false 4 kind b₂)
+        (decides _ Misplaced _ refl
+        (λ b (q : InPlace (records (readSheet s so)) kind).
+        true≢false (sym b ∙ ap (λ (x : Bool). misplacedOf x kind so) t
+        ∙ place-in kind so (q .0) (λ e. sym np ∙ q .1 e) (λ e. sym ni ∙ q .2 e) (λ e. sym ni ∙ q .3 e))) (λ b₃.
+        let i = in-place kind so (sym (ap (λ (x : Bool). misplacedOf x kind so) t) ∙ b₃) in
+        let size = size-same kind (ltb-false 4 kind b₂) in
+        passes (i .0, λ e. np ∙ i .1 e, λ e. ni ∙ i .2 e, λ e. ni ∙ i .3 e)
+        (decides _ Ended _ refl (λ b q. let k = ltb-true (length rest) (sizeOf kind) b in omega (arith, size, q, k)) (λ b₄.
+        let fits : recordLength kind ≤ length rest = let k = ltb-false (length rest) (sizeOf kind) b₄ in omega (arith, size, k) in
+        passes fits (body-there (ltb-false 4 kind b₂) (i .0) fits, body-back fits))))))))
+
+no-valid : {f : Fault} {p : ℕ} {lay : Layout} → Valid lay ≡ Faulty f p → ⊥
+no-valid e = let z : _≡_ {A = ℕ} 0 1 = cc in omega arith
+
+same-told : {f g : Fault} {p q : ℕ} → Faulty f p ≡ Faulty g q → (f ≡ g) × (p ≡ q)
+same-told {f} {g} {p} {q} e = (let a : f ≡ g = cc in a, let b : p ≡ q = cc in b)
+
+memory-read : (s : List ℕ) (at : ℕ) (so : Counts) → Sound s at so → room (readSheet s so .regions) ≡ so .memory
+memory-read s at so ok = sum-listed (regionAt s) 0 (so .regions) ∙ sym (ok .memory-sum)
+
+pub fault-told : (s : List ℕ) (f : Fault) (place : ℕ) → Every IsOctet s → verdictOf s ≡ Faulty f place → FirstFault s (numberOf f) place
+unfolding verdictOf endedOf numberOf
+fault-told s f place octs v =
+    ⊎-elim
+    (λ (b : ltb 2048 (length s) ≡ true).
+    let e = same-told (sym (pick-yes _ _ b) ∙ v) in
+    inl (ltb-true 2048 (length s) b, ap numberOf (sym (e .0)), sym (e .1)))
+    (λ (b : ltb 2048 (length s) ≡ false).
+    let short = ltb-false 2048 (length s) b in
+    let q = reached s (Faulty f place) short (sym (pick-no _ _ b) ∙ v) in
+    let rest = q .rest in
+    let so = q .so in
+    let st = q .standing in
+    let fits = st .fits in
+    let ro : Every IsOctet rest = subst (λ (l : List ℕ). Every IsOctet l) (sym (st .part)) (octets-drop (placeOf s rest) s octs) in
+    inr (
+      short,
+      ⊎-elim
+          (λ c.
+          let e = same-told (c .2) in
+          ⊎-elim
+          (λ z.
+          let z₀ = z .0 in
+          record {
+            sofar = nothing;
+            good = tt;
+            rest = rest;
+            split = sym (st .part ∙ ap (λ (i : ℕ). drop i s) (z .0));
+            which = inl (
+              omega (arith, e .1, z .0, fits),
+              subst (λ (g : Fault). RecordFault nothing rest (numberOf g)) (e .0)
+                  (first-fault s rest ro (c .0) (omega arith) .0 (ap (recordOf s rest) (sym (z .1)) ∙ c .1)),
+            );
+          })
+          (λ h.
+          let h₀ = h .0 in
+          let good = front-good s octs so (placeOf s rest) (st .sound) (q .marked) (h .0) (omega arith) (h .1) in
+          record {
+            sofar = records (readSheet s so);
+            good = good;
+            rest = rest;
+            split = front-written s octs so (placeOf s rest) (st .sound) (q .marked) (h .0) (omega arith) (h .1) ∙ ap (written (readSheet s so)) (sym (st .part));
+            which = inl (
+              omega (arith, e .1, fits),
+              subst (λ (g : Fault). RecordFault (records (readSheet s so)) rest (numberOf g)) (e .0)
+                  (later-fault s rest ro (c .0) so good (memory-read s (placeOf s rest) so (st .sound)) (λ (x : length rest ≡ length s). let k : ⊥ = omega arith in k) .0 (c .1)),
+            );
+          })
+          (st .sound .begun))
+          (λ c.
+          let h = end-later s rest so (c .0) (c .1) st (c .2) (c .3) in
+          ⊎-elim
+          (λ (d : ltb 1 (length rest) ≡ true).
+          let e = same-told (sym (pick-yes _ _ d) ∙ c .4) in
+          record {
+            sofar = records (readSheet s so);
+            good = front-good s octs so (placeOf s rest) (st .sound) (q .marked) (h .1) (omega arith) (h .2);
+            rest = rest;
+            split = front-written s octs so (placeOf s rest) (st .sound) (q .marked) (h .1) (omega arith) (h .2) ∙ ap (written (readSheet s so)) (sym (st .part));
+            which = inr ((c .3, ltb-true 1 (length rest) d), ap numberOf (sym (e .0)), omega (arith, e .1, fits));
+          })
+          (λ (d : ltb 1 (length rest) ≡ false). absurd (no-valid (sym (pick-no _ _ d) ∙ c .4)))
+          (decided (ltb 1 (length rest))))
+          (q .last),
+    ))
+    (decided (ltb 2048 (length s)))

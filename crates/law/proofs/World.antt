@@ -1,0 +1,59 @@
+-- What the rows need of a sheet's octets and of a memory.
+use mathlib.Core.Bool.{Bool, true, false}
+use mathlib.Core.Path.{_≡_, refl, ap}
+use mathlib.Core.List.{List, [], _∷_, map}
+use Prim.Native.Nat.{ℕ, zero, suc, _+_, _≤_}
+use lib.ListN.{length, take, drop}
+use Rattle.octets.specs.Parts.{part, putAt}
+use Rattle.frame.specs.Body.{dataFrom}
+use Rattle.law.specs.Words.{oneOf, Piece, piece}
+use Rattle.law.specs.Sheet.{Item as Ident, Sheet}
+use Rattle.law.specs.Memory.{Cell, cells, stored, held, hasAll, mapped}
+use Rattle.law.specs.Table.{again, itemOf as identOf}
+use Rattle.machine.specs.Spans.{spanPlace}
+use Rattle.machine.specs.declared.words.Carrier.{Carrier}
+use Rattle.machine.specs.declared.words.Carrier.the-variants.{Parameter, Memory}
+use Rattle.regions.specs.Region.{regionsOf, givesOf}
+use Rattle.regions.specs.declared.Right.the-variants.{Mapped}
+use Rattle.sheet.specs.Entries.{parametersOf, itemsOf, soughtItem}
+use Rattle.sheet.specs.declared.entries.Item.{Item}
+use Rattle.sheet.specs.declared.entries.SoughtItem.{SoughtItem}
+use Rattle.law.proofs.Layouts.{asParameter, asRegion}
+
+-- what the sheet's octets and the memory say
+abbrev pub echo : List ℕ → Carrier → Piece
+echo c Parameter = again c 4 6
+echo c Memory = again c 5 11
+
+abbrev pub dataPiece : Bool → Carrier → List Cell → List ℕ → List ℕ → ℕ → ℕ → Piece
+dataPiece false by cs m c a n = piece (dataFrom by) (held cs m a n)
+dataPiece true by cs m c a n = piece (dataFrom by) (take n (drop (dataFrom by) c))
+
+abbrev pub written : Bool → Carrier → List ℕ → ℕ → ℕ → List Piece
+written false by c a n = []
+written true by c a n = piece a (take n (drop (dataFrom by) c)) ∷ []
+
+pub record ItemSame (is : List Item) (ids : List Ident) (sheet : List ℕ) (n : ℕ) : Type 0 where
+  pub at : ℕ
+  pub found : oneOf n (map (λ (i : Ident). i .code) ids) ≡ true → soughtItem is n ≡ SoughtItem.Found (record { code = n; length = identOf ids n .length; at = at })
+  pub missing : oneOf n (map (λ (i : Ident). i .code) ids) ≡ false → soughtItem is n ≡ SoughtItem.Missing
+  pub own : oneOf n (map (λ (i : Ident). i .code) ids) ≡ true → (o k : ℕ) → o + k ≤ identOf ids n .length → part sheet (at + o) k ≡ take k (drop o (identOf ids n .octets))
+
+pub record World (h : Sheet) (sheet m : List ℕ) : Type 0 where
+  pub regions : regionsOf sheet (length (h .regions)) ≡ map asRegion (h .regions)
+  pub parameters : parametersOf sheet (length (h .regions)) (length (h .parameters)) ≡ map asParameter (h .parameters)
+  pub items : (n : ℕ) → ItemSame (itemsOf sheet (length (h .regions)) (length (h .parameters)) (length (h .items))) (h .items) sheet n
+  pub long : 8 ≤ h .l
+  pub whole : length m ≡ length (cells (h .regions))
+  pub reads : (a n : ℕ) → hasAll mapped (cells (h .regions)) a n ≡ true → part m (spanPlace (map asRegion (h .regions)) a) n ≡ held (cells (h .regions)) m a n
+  pub writes : (a n : ℕ) (o : List ℕ) → hasAll mapped (cells (h .regions)) a n ≡ true → length o ≡ n
+      → putAt m (spanPlace (map asRegion (h .regions)) a) o ≡ stored (piece a o ∷ []) (cells (h .regions)) m
+
+pub held-length : (cs : List Cell) (m : List ℕ) (a n : ℕ) → length (held cs m a n) ≡ n
+unfolding held
+held-length cs m a zero = refl
+held-length cs m a (suc n) = ap suc (held-length cs m (suc a) n)
+
+pub mapped-is : (x : ℕ) → mapped x ≡ givesOf x Mapped
+unfolding givesOf
+mapped-is x = refl

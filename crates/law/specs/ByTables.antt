@@ -1,0 +1,53 @@
+-- The theorem: for every input, what meets the promise of a call is what the tables say, to the octet, and nothing else is.
+use Prim.Native.Nat.{ℕ}
+use mathlib.Core.List.{List, []}
+use mathlib.Core.Logic.{_⊎_, _↔_}
+use mathlib.Core.Path.{_≡_}
+use Rattle.replay.specs.Replay.{replayOf}
+use Rattle.sheet.specs.Walk.{verdictOf}
+use Rattle.slave.specs.Answers.{sheetAnswer}
+use Rattle.slave.specs.Calls.{resetOf, enableOf}
+use Rattle.slave.specs.Exchange.{exchangeOf}
+use Rattle.type24.specs.Packed.{packed, packedAfter, afterCall, packedLeft, leftByCall, lengthsOf, packedReplay, byReplay}
+use Rattle.law.specs.Words.{Every}
+use Rattle.law.specs.Sheet.{Sheet, WellFormed, FiveLengths, IsOctet, sheetOctets}
+use Rattle.law.specs.Faults.{FirstFault}
+use Rattle.law.specs.Calls.{Result, result, sheetTold, lengths, reset, enable, exchange}
+use Rattle.law.specs.Trace.{Form, HasForm, replay}
+
+-- what a host has behind a call, octets that the call does not write left out
+abbrev pub has : ℕ → List ℕ → List ℕ → List ℕ → Result
+has answer state memory reply = record { answer = answer; state = state; memory = memory; reply = reply }
+
+-- "Order: sheet, ..": the sheet is the writing of a well-formed one, and the call does what it does for that; or its first fault is told
+abbrev pub ByLaw : List ℕ → (Sheet → Result → Type 0) → (ℕ → ℕ → Result) → Result → Type 0
+ByLaw sheet Good refusal x =
+    ((h : Sheet) × WellFormed h × (sheet ≡ sheetOctets h) × Good h x) ⊎ ((f : ℕ) × (place : ℕ) × FirstFault sheet f place × (x ≡ refusal f place))
+
+-- "A sheet is accepted exactly when it is the writing of a well-formed one, and of one only", and every fault with its place is the first of the sheet's
+pub record OneReading : Type 0 where
+  pub one-sheet : (a b : Sheet) → WellFormed a → WellFormed b → sheetOctets a ≡ sheetOctets b → a ≡ b
+  pub one-fault : (s : List ℕ) (f g p q : ℕ) → Every IsOctet s → FirstFault s f p → FirstFault s g q → (f ≡ g) × (p ≡ q)
+  pub never-both : (h : Sheet) (f p : ℕ) → WellFormed h → Every IsOctet (sheetOctets h) → FirstFault (sheetOctets h) f p → ⊥
+  pub one-form : (l : ℕ) (trace : List ℕ) (a b : Form) → FiveLengths l → HasForm l trace a → HasForm l trace b → a ≡ b
+
+-- each call of type24/src/lib.rt: on the left its promise, word for word, on the right the law. What a host lends are octets, and so below 256
+pub record ByTables : Type 0 where
+  pub sheets : (sheet : List ℕ) (a : ℕ) → Every IsOctet sheet
+      → (a ≡ packed (sheetAnswer (verdictOf sheet)))
+      ↔ ByLaw sheet (λ h x. x ≡ sheetTold h) (λ f place. result f place [] [] []) (has a [] [] [])
+  pub lengths-told : (sheet : List ℕ) (a : ℕ) → Every IsOctet sheet
+      → (a ≡ lengthsOf (verdictOf sheet))
+      ↔ ByLaw sheet (λ h x. x ≡ lengths h) (λ f place. result 0 0 [] [] []) (has a [] [] [])
+  pub resets : (sheet s : List ℕ) (a : ℕ) (s′ : List ℕ) → Every IsOctet sheet
+      → (packedAfter a s′ ≡ afterCall (resetOf sheet s))
+      ↔ ByLaw sheet (λ h x. x ≡ reset h s) (λ f place. result f place s [] []) (has a s′ [] [])
+  pub enables : (sheet s : List ℕ) (a : ℕ) (s′ : List ℕ) → Every IsOctet sheet
+      → (packedAfter a s′ ≡ afterCall (enableOf sheet s))
+      ↔ ByLaw sheet (λ h x. x ≡ enable h s) (λ f place. result f place s [] []) (has a s′ [] [])
+  pub exchanges : (sheet s m c r : List ℕ) (a : ℕ) (s′ m′ r′ : List ℕ) → Every IsOctet sheet
+      → (packedLeft a s′ m′ r′ ≡ leftByCall (exchangeOf sheet s m c r))
+      ↔ ByLaw sheet (λ h x. x ≡ exchange h s m c r) (λ f place. result f place s m r) (has a s′ m′ r′)
+  pub replays : (sheet s m trace : List ℕ) (a : ℕ) (s′ m′ : List ℕ) → Every IsOctet sheet
+      → (packedReplay a s′ m′ ≡ byReplay (replayOf sheet s m trace))
+      ↔ ByLaw sheet (λ h x. (form : Form) × HasForm (h .l) trace form × (x ≡ replay h s m trace form)) (λ f place. result f place s m []) (has a s′ m′ [])

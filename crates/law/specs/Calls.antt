@@ -1,0 +1,59 @@
+-- "What each call tells", for a good sheet. A refusal leaves state, memory and reply as they were.
+use Prim.Native.Nat.{ℕ, _+_, _*_}
+use mathlib.Core.Bool.{not}
+use mathlib.Core.List.{List, [], _∷_}
+use lib.Dec.{eqb}
+use lib.ListN.{length}
+use Rattle.law.specs.Words.{when, piece, over}
+use Rattle.law.specs.Sheet.{Sheet, room}
+use Rattle.law.specs.State.{link, validState}
+use Rattle.law.specs.Memory.{cells, stored}
+use Rattle.law.specs.Exchange.{Fate, mn, fateOf, stateAfter, replyFor}
+
+-- what a host has behind a call: one number for the answer, and what the octets hold that it lent to be written; [] for those that the call has not
+pub record Result : Type 0 where
+  pub answer : ℕ
+  pub state : List ℕ
+  pub memory : List ℕ
+  pub reply : List ℕ
+
+-- the answer is the number + 2^32 times the place
+abbrev pub result : ℕ → ℕ → List ℕ → List ℕ → List ℕ → Result
+result number place state memory reply = record { answer = number + 4294967296 * place; state = state; memory = memory; reply = reply }
+
+-- t24_sheet: a good sheet is told by 0
+abbrev pub sheetTold : Sheet → Result
+sheetTold h = result 0 0 [] [] []
+
+-- t24_lengths: L + 2^32 times the length of the memory
+abbrev pub lengths : Sheet → Result
+lengths h = result (h .l) (room (h .regions)) [] [] []
+
+-- "Reset asks only a good sheet and a state buffer of ten octets, with any content; it writes Disabled with the sheet's L and zeros."
+unfoldable pub reset : Sheet → List ℕ → Result
+reset h s =
+    when (not (eqb (length s) 10)) (result 1 0 s [] [])
+    (result 0 0 (0x11 ∷ 0 ∷ h .l ∷ 0 ∷ 0 ∷ 0 ∷ 0 ∷ 0 ∷ 0 ∷ 0 ∷ []) [] [])
+
+-- "1 state record of wrong length or not valid; 6 enable when not Disabled"; "Enable turns Disabled into Disconnected."
+unfoldable pub enable : Sheet → List ℕ → Result
+enable h s =
+    when (not (validState h s)) (result 1 0 s [] [])
+    (when (not (eqb (link s) 0)) (result 6 0 s [] [])
+    (result 0 0 (over (piece 1 (1 ∷ []) ∷ []) s) [] []))
+
+-- an exchange that nothing refuses: the fate of its command, done
+abbrev pub done : Sheet → List ℕ → List ℕ → List ℕ → Fate → Result
+done h s m c f =
+    result 0 0 (stateAfter s (mn c) (f .state)) (stored (f .memory) (cells (h .regions)) m)
+    (replyFor h c (f .alarm) (stateAfter s (mn c) (f .state)) (f .body))
+
+-- "1 state record ..; 2 memory length not the sum of the regions; 3 command length not L; 4 reply length not L; 5 exchange while Disabled"
+unfoldable pub exchange : Sheet → List ℕ → List ℕ → List ℕ → List ℕ → Result
+exchange h s m c r =
+    when (not (validState h s)) (result 1 0 s m r)
+    (when (not (eqb (length m) (room (h .regions)))) (result 2 0 s m r)
+    (when (not (eqb (length c) (h .l))) (result 3 0 s m r)
+    (when (not (eqb (length r) (h .l))) (result 4 0 s m r)
+    (when (eqb (link s) 0) (result 5 0 s m r)
+    (done h s m c (fateOf h s m c))))))

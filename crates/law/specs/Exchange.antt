@@ -1,0 +1,71 @@
+-- "One exchange": what every exchange does around the table.
+use Prim.Native.Nat.{ℕ, _+_, _*_, _%_}
+use mathlib.Core.Bool.{not, _&&_}
+use mathlib.Core.List.{List, [], _∷_}
+use lib.Dec.{eqb}
+use lib.ListN.{replicate}
+use Rattle.law.specs.Words.{when, oneOf, octet, Piece, piece, over}
+use Rattle.law.specs.Sheet.{Sheet}
+use Rattle.law.specs.State.{link, rsn, commandLatch, communicationLatch}
+use Rattle.law.specs.Table.{Asked, check, Row, table}
+
+-- "Command: octet 0 code, octet 1 WDT (low half MN, high half SN), octets 2 and 3 control, ignored."
+abbrev pub mn : List ℕ → ℕ
+mn c = octet c 1 % 16
+
+-- what becomes of a command: its alarm, 0 if accepted; what changes in the state record; the body; what is stored
+pub record Fate : Type 0 where
+  pub alarm : ℕ
+  pub state : List Piece
+  pub body : List Piece
+  pub memory : List Piece
+
+abbrev pub fate : ℕ → List Piece → List Piece → List Piece → Fate
+fate alarm state body memory = record { alarm = alarm; state = state; body = body; memory = memory }
+
+-- "each of the last four stores its alarm in the command latch if that is 0"; "A refused command has a zero body."
+unfoldable pub refused : List ℕ → ℕ → Fate
+refused s alarm = fate alarm (when (eqb (commandLatch s) 0) (piece 8 (alarm ∷ []) ∷ []) []) [] []
+
+-- the first check that fails decides; where none does, the row is done
+unfoldable pub checked : List ℕ → List Asked → Row → Fate
+checked s [] r = fate 0 (r .state) (r .body) (r .memory)
+checked s (k ∷ ks) r = when (k .holds) (checked s ks r) (refused s (k .alarm))
+
+-- "2. Unknown code: alarm 8. 3. Code not allowed in this link: alarm 12." Then "4. Data: alarm 9. 5. Rights over the whole span: alarm 10", as the row
+-- has them
+unfoldable pub judged : List ℕ → ℕ → List Row → Fate
+judged s code [] = refused s 8
+judged s code (r ∷ rs) = when (eqb code (r .code)) (checked s (check (oneOf (link s) (r .links)) 12 0 ∷ r .checks) r) (judged s code rs)
+
+-- "1. Link 3 with MN known: MN must be last MN plus 1, modulo 16. If not, nothing is executed, the body is zero, the communication latch becomes 12, the
+-- command alarm is 0, the link becomes 2."
+unfoldable pub fateOf : Sheet → List ℕ → List ℕ → List ℕ → Fate
+fateOf h s m c =
+    when (eqb (link s) 3 && (eqb (octet s 5) 1 && not (eqb (mn c) ((octet s 6 + 1) % 16))))
+    (fate 0 (piece 1 (2 ∷ []) ∷ piece 9 (12 ∷ []) ∷ []) [] [])
+    (judged s (octet c 0) (table h s m c))
+
+-- "An exchange that begins and ends in link 3 stores MN as known and adds 1 to RSN modulo 16, refused or not. .. On entry to link 3 MN is not known and
+-- RSN is 0; on leaving it those fields and dual become 0."
+unfoldable pub watched : ℕ → ℕ → List ℕ → ℕ → List Piece
+watched begins ends s mn =
+    when (eqb begins 3)
+    (when (eqb ends 3) (piece 5 (1 ∷ mn ∷ (rsn s + 1) % 16 ∷ []) ∷ []) (piece 3 (0 ∷ []) ∷ piece 5 (0 ∷ 0 ∷ 0 ∷ []) ∷ []))
+    (when (eqb ends 3) (piece 5 (0 ∷ 0 ∷ 0 ∷ []) ∷ []) [])
+
+-- the state record afterwards
+unfoldable pub stateAfter : List ℕ → ℕ → List Piece → List ℕ
+stateAfter s mn changes = over (watched (link s) (link (over changes s)) s mn) (over changes s)
+
+-- "Reply: octet 0 the code again, octet 1 RWDT, octets 2 and 3 status, then body"; t is the state record afterwards
+unfoldable pub replyFor : Sheet → List ℕ → ℕ → List ℕ → List Piece → List ℕ
+replyFor h c alarm t body =
+    -- "RWDT is 16 times the new RSN plus the command's MN if the link afterwards is 3, else 0."
+    let rwdt = when (eqb (link t) 3) (16 * rsn t + mn c) 0 in
+    -- "Status bit 0 is set if a latch is nonzero after the exchange; bit 2 is always set"
+    let low = 4 + when (eqb (commandLatch t) 0 && eqb (communicationLatch t) 0) 0 1 in
+    -- "bits 8 to 11 are this command's alarm, 0 if accepted; bits 12 to 15 the communication latch after the exchange; the rest 0"
+    let high = alarm + 16 * communicationLatch t in
+    -- "Unnamed reply octets are zero"
+    over (piece 0 (octet c 0 ∷ rwdt ∷ low ∷ high ∷ []) ∷ body) (replicate (h .l) 0)

@@ -1,0 +1,99 @@
+-- The fault of a sheet that is not well formed: "The sheet is read record by record from its front, and the first fault is told."
+use Prim.Native.Nat.{ℕ, zero, suc, _+_, _≤_, _<_}
+use mathlib.Core.List.{List, [], _∷_, _++_}
+use mathlib.Core.Logic.{_⊎_}
+use mathlib.Core.Path.{_≡_}
+use lib.ListN.{length, getD}
+use Rattle.law.specs.Words.{Some, Check, NoMore}
+use Rattle.law.specs.Sheet.{Region, Parameter, Item, Sheet, GoodRegion, GoodItem, WellFormed, FiveLengths, Apart, NumbersRise, CodesRise, Has, regionOctets, parameterOctets, itemOctets, written, room}
+
+-- what stands before the record at fault: nothing, or records of which a sheet could consist
+pub data Sofar : Type 0 where
+  nothing : Sofar
+  records : Sheet → Sofar
+
+-- its octets, and what stands behind them
+abbrev pub before : Sofar → List ℕ → List ℕ
+before nothing rest = rest
+before (records h) rest = written h rest
+
+abbrev pub GoodSofar : Sofar → Type 0
+GoodSofar nothing = Unit {0}
+GoodSofar (records h) = WellFormed h
+
+-- "The link record comes first and once; then regions, parameters, ID items, end"
+abbrev pub InPlace : Sofar → ℕ → Type 0
+InPlace nothing kind = kind ≡ 1
+InPlace (records h) kind =
+    (kind ≡ 1 → ⊥)
+    × (kind ≡ 2 → length (h .parameters) ≡ 0)
+    × (kind ≡ 2 → length (h .items) ≡ 0)
+    × (kind ≡ 3 → length (h .items) ≡ 0)
+
+-- "a body whose length the kind fixes": the octets of a record of kind 0 to 4, the kind octet among them
+abbrev pub recordLength : ℕ → ℕ
+recordLength zero = 1
+recordLength (suc zero) = 4
+recordLength (suc (suc zero)) = 10
+recordLength (suc (suc (suc zero))) = 8
+recordLength (suc (suc (suc (suc n)))) = 35
+
+-- "field range (14), too many records or too much memory (16), order or overlap (15), parameter span (17)"
+abbrev pub RegionFault : Sheet → Region → ℕ → Type 0
+RegionFault h r =
+    Check 14 (GoodRegion r)
+    (Check 16 ((length (h .regions ++ r ∷ []) ≤ 32) × (room (h .regions ++ r ∷ []) ≤ 65536))
+    (Check 15 (Apart (h .regions ++ r ∷ []))
+    NoMore))
+
+abbrev pub ParameterFault : Sheet → Parameter → ℕ → Type 0
+ParameterFault h p =
+    Check 14 ((1 ≤ p .size) × (p .size ≤ 56))
+    (Check 16 (length (h .parameters ++ p ∷ []) ≤ 64)
+    (Check 15 (NumbersRise (h .parameters ++ p ∷ []))
+    (Check 17 ((a : ℕ) → p .address ≤ a → a < p .address + p .size → Some (Has a) (h .regions))
+    NoMore)))
+
+abbrev pub ItemFault : Sheet → Item → ℕ → Type 0
+ItemFault h i =
+    Check 14 (GoodItem i)
+    (Check 16 (length (h .items ++ i ∷ []) ≤ 32)
+    (Check 15 (CodesRise (h .items ++ i ∷ []))
+    NoMore))
+
+-- the record that stands there, each number in the octets that it has, and its fault
+abbrev pub BodyFault : Sofar → List ℕ → ℕ → Type 0
+BodyFault nothing rest f = Check 14 (FiveLengths (getD rest 1 0)) NoMore f
+BodyFault (records h) rest f =
+    ((r : Region) × (t : List ℕ) × (rest ≡ regionOctets r ++ t) × (r .start < 4294967296) × (r .length < 4294967296) × RegionFault h r f)
+    ⊎ (((p : Parameter) × (t : List ℕ) × (rest ≡ parameterOctets p ++ t) × (p .number < 65536) × (p .address < 4294967296) × ParameterFault h p f)
+    ⊎ ((i : Item) × (t : List ℕ) × (rest ≡ itemOctets i ++ t) × (length (i .octets) ≡ 32) × ItemFault h i f))
+
+-- "sheet ended before an end record (11), unknown kind (12), kind out of place (13), body cut short (11)", then the record's own
+abbrev pub RecordFault : Sofar → List ℕ → ℕ → Type 0
+RecordFault x rest =
+    Check 11 (1 ≤ length rest)
+    (Check 12 (getD rest 0 0 ≤ 4)
+    (Check 13 (InPlace x (getD rest 0 0))
+    (Check 11 (recordLength (getD rest 0 0) ≤ length rest)
+    (BodyFault x rest))))
+
+-- an end record behind at least the link record, and octets behind it
+abbrev pub AfterEnd : Sofar → List ℕ → Type 0
+AfterEnd nothing rest = ⊥
+AfterEnd (records h) rest = (getD rest 0 0 ≡ 0) × (2 ≤ length rest)
+
+-- the fault f of a sheet that is not too long, and its place: good records, and what stands behind them has the fault
+pub record FaultAt (s : List ℕ) (f place : ℕ) : Type 0 where
+  pub sofar : Sofar
+  pub good : GoodSofar sofar
+  pub rest : List ℕ
+  pub split : s ≡ before sofar rest
+  -- "The place is the record's first octet, ..; where not even a kind octet is left .., it is the sheet's length. Octets after the end record are fault
+  -- 13 at the first of them."
+  pub which : ((place + length rest ≡ length s) × RecordFault sofar rest f)
+      ⊎ (AfterEnd sofar rest × (f ≡ 13) × (place + length rest ≡ length s + 1))
+
+-- "A sheet over 2,048 octets is fault 11 at place 0."
+abbrev pub FirstFault : List ℕ → ℕ → ℕ → Type 0
+FirstFault s f place = ((2048 < length s) × (f ≡ 11) × (place ≡ 0)) ⊎ ((length s ≤ 2048) × FaultAt s f place)

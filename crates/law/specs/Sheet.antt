@@ -1,0 +1,121 @@
+-- "The device sheet": what it consists of, the octets that it is written as, and when it is well formed. Nothing here reads a sheet.
+use Prim.Native.Nat.{ℕ, _+_, _≤_, _<_}
+use mathlib.Core.List.{List, [], _∷_, _++_}
+use mathlib.Core.Logic.{_⊎_}
+use mathlib.Core.Path.{_≡_}
+use lib.ListN.{length, drop}
+use Rattle.law.specs.Words.{Every, Some, InARow, sumOf, joined, inOctets}
+
+pub record Region : Type 0 where
+  pub start : ℕ
+  pub length : ℕ
+  pub rights : ℕ
+
+pub record Parameter : Type 0 where
+  pub number : ℕ
+  pub address : ℕ
+  pub size : ℕ
+
+-- an ID item; its octets are all 32
+pub record Item : Type 0 where
+  pub code : ℕ
+  pub length : ℕ
+  pub octets : List ℕ
+
+-- "The link record comes first and once; then regions, parameters, ID items, end": a sheet has the link record's fields, and a list of each kind
+pub record Sheet : Type 0 where
+  pub l : ℕ
+  pub version : ℕ
+  pub profile : ℕ
+  pub regions : List Region
+  pub parameters : List Parameter
+  pub items : List Item
+
+-- "02 region: start (4), length (4), rights (1)"
+abbrev pub regionOctets : Region → List ℕ
+regionOctets r = 2 ∷ inOctets 4 (r .start) ++ inOctets 4 (r .length) ++ r .rights ∷ []
+
+-- "03 parameter: number (2), address (4), size (1)"
+abbrev pub parameterOctets : Parameter → List ℕ
+parameterOctets p = 3 ∷ inOctets 2 (p .number) ++ inOctets 4 (p .address) ++ p .size ∷ []
+
+-- "04 ID item: code (1), length (1), 32 octets"
+abbrev pub itemOctets : Item → List ℕ
+itemOctets i = 4 ∷ i .code ∷ i .length ∷ i .octets
+
+-- "01 link: L (1), version (1), profile (1)"; all records of a sheet, and what stands behind them
+abbrev pub written : Sheet → List ℕ → List ℕ
+written h rest =
+    (1 ∷ h .l ∷ h .version ∷ h .profile ∷ [])
+    ++ (joined regionOctets (h .regions) ++ (joined parameterOctets (h .parameters) ++ (joined itemOctets (h .items) ++ rest)))
+
+-- a whole sheet: behind its records the end record, "00 end: none", and "nothing after"
+abbrev pub sheetOctets : Sheet → List ℕ
+sheetOctets h = written h (0 ∷ [])
+
+-- "PDU length L of 8, 16, 32, 48 or 64"
+abbrev pub FiveLengths : ℕ → Type 0
+FiveLengths l = (l ≡ 8) ⊎ ((l ≡ 16) ⊎ ((l ≡ 32) ⊎ ((l ≡ 48) ⊎ (l ≡ 64))))
+
+abbrev pub IsOctet : ℕ → Type 0
+IsOctet x = x < 256
+
+-- start and length fit 4 octets. "Length is at least 1 and start + length at most 2^32. Rights: bit 0 .., bit 1 .., bit 2 .., other bits 0."
+pub record GoodRegion (r : Region) : Type 0 where
+  pub start : r .start < 4294967296
+  pub length : r .length < 4294967296
+  pub some : 1 ≤ r .length
+  pub ends : r .start + r .length ≤ 4294967296
+  pub bits : r .rights ≤ 7
+
+-- a region has an address
+abbrev pub Has : ℕ → Region → Type 0
+Has a r = (r .start ≤ a) × (a < r .start + r .length)
+
+-- number and address fit 2 and 4 octets. "Parameter size 1 to 56. .. A parameter's span lies wholly in regions."
+pub record GoodParameter (regions : List Region) (p : Parameter) : Type 0 where
+  pub number : p .number < 65536
+  pub address : p .address < 4294967296
+  pub some : 1 ≤ p .size
+  pub most : p .size ≤ 56
+  pub spans : (a : ℕ) → p .address ≤ a → a < p .address + p .size → Some (Has a) regions
+
+-- "ID length 1 to 32, the octets past it zero"
+pub record GoodItem (i : Item) : Type 0 where
+  pub code : IsOctet (i .code)
+  pub some : 1 ≤ i .length
+  pub most : i .length ≤ 32
+  pub room : length (i .octets) ≡ 32
+  pub octets : Every IsOctet (i .octets)
+  pub zeros : Every (λ x. x ≡ 0) (drop (i .length) (i .octets))
+
+-- the octets of memory that regions take
+abbrev pub room : List Region → ℕ
+room rs = sumOf (λ (r : Region). r .length) rs
+
+-- "Each region starts at or past the end of the one before"
+abbrev pub Apart : List Region → Type 0
+Apart rs = InARow (λ (a b : Region). a .start + a .length ≤ b .start) rs
+
+-- "parameter numbers and ID codes rise strictly"
+abbrev pub NumbersRise : List Parameter → Type 0
+NumbersRise ps = InARow (λ (a b : Parameter). a .number < b .number) ps
+
+abbrev pub CodesRise : List Item → Type 0
+CodesRise is = InARow (λ (a b : Item). a .code < b .code) is
+
+pub record WellFormed (h : Sheet) : Type 0 where
+  pub l : FiveLengths (h .l)
+  pub version : IsOctet (h .version)
+  pub profile : IsOctet (h .profile)
+  pub regions : Every GoodRegion (h .regions)
+  pub parameters : Every (GoodParameter (h .regions)) (h .parameters)
+  pub items : Every GoodItem (h .items)
+  pub apart : Apart (h .regions)
+  pub numbers-rise : NumbersRise (h .parameters)
+  pub codes-rise : CodesRise (h .items)
+  -- "At most 32 regions, 64 parameters, 32 ID items, 65,536 octets of memory"; "2,048 octets of sheet" follow: this makes 1,957 at most
+  pub few-regions : length (h .regions) ≤ 32
+  pub few-parameters : length (h .parameters) ≤ 64
+  pub few-items : length (h .items) ≤ 32
+  pub memory : room (h .regions) ≤ 65536

@@ -1,0 +1,52 @@
+-- "The state record": ten octets, and when they are valid.
+use Prim.Native.Nat.{ℕ}
+use mathlib.Core.Bool.{Bool, not, _&&_}
+use mathlib.Core.List.{List, [], _∷_}
+use lib.Dec.{eqb, leb}
+use lib.ListN.{length}
+use Rattle.law.specs.Words.{implies, all, oneOf, octet}
+use Rattle.law.specs.Sheet.{Sheet}
+
+-- "Ten octets": 0 kind; 1 link (0 Disabled, 1 Disconnected, 2 AsyncConnected, 3 SyncConnected); 2 L; 3 dual transfer; 4 com_time; 5 MN known; 6 last MN;
+-- 7 RSN; 8 latched command alarm; 9 latched communication alarm
+abbrev pub link : List ℕ → ℕ
+link s = octet s 1
+
+abbrev pub rsn : List ℕ → ℕ
+rsn s = octet s 7
+
+abbrev pub commandLatch : List ℕ → ℕ
+commandLatch s = octet s 8
+
+abbrev pub communicationLatch : List ℕ → ℕ
+communicationLatch s = octet s 9
+
+abbrev pub clauses : Sheet → List ℕ → List Bool
+clauses h s =
+    eqb (length s) 10
+    -- "kind 11 hex"; links 0 to 3; "L is the sheet's"
+    ∷ eqb (octet s 0) 0x11
+    ∷ leb (link s) 3
+    ∷ eqb (octet s 2) (h .l)
+    -- "dual transfer 0 or 1"; "MN known 0 or 1"; "last MN 0 to 15"; "RSN 0 to 15"
+    ∷ leb (octet s 3) 1
+    ∷ leb (octet s 5) 1
+    ∷ leb (octet s 6) 15
+    ∷ leb (rsn s) 15
+    ∷ oneOf (commandLatch s) (0 ∷ 8 ∷ 9 ∷ 10 ∷ 12 ∷ [])
+    ∷ oneOf (communicationLatch s) (0 ∷ 12 ∷ [])
+    -- "com_time is nonzero exactly in links 2 and 3"
+    ∷ implies (leb 2 (link s)) (leb 1 (octet s 4))
+    ∷ implies (leb (link s) 1) (eqb (octet s 4) 0)
+    -- "dual is 0 outside link 3 and dual 1 has com_time at least 2"
+    ∷ implies (not (eqb (link s) 3)) (eqb (octet s 3) 0)
+    ∷ implies (eqb (octet s 3) 1) (leb 2 (octet s 4))
+    -- "the MN and RSN fields are zero outside link 3, last MN and RSN are zero when MN is not known"
+    ∷ implies (not (eqb (link s) 3)) (eqb (octet s 5) 0 && (eqb (octet s 6) 0 && eqb (rsn s) 0))
+    ∷ implies (eqb (octet s 5) 0) (eqb (octet s 6) 0 && eqb (rsn s) 0)
+    -- "both alarms are zero in link 0"
+    ∷ implies (eqb (link s) 0) (eqb (commandLatch s) 0 && eqb (communicationLatch s) 0)
+    ∷ []
+
+unfoldable pub validState : Sheet → List ℕ → Bool
+validState h s = all (clauses h s)

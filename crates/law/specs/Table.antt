@@ -1,0 +1,130 @@
+-- "One exchange": the table, a row for each code.
+use Prim.Native.Nat.{ℕ, _+_, _-_, _*_}
+use mathlib.Core.Bool.{Bool, _&&_}
+use mathlib.Core.List.{List, [], _∷_, map}
+use lib.Dec.{eqb, leb}
+use lib.ListN.{take, drop}
+use Rattle.law.specs.Words.{when, implies, oneOf, number, octet, bit, Piece, piece}
+use Rattle.law.specs.Sheet.{Parameter, Item, Sheet}
+use Rattle.law.specs.State.{link, commandLatch, communicationLatch}
+use Rattle.law.specs.Memory.{cells, mapped, readable, writable, hasAll, held}
+
+-- a check: whether it holds, its alarm, and the octet of the command at which its field begins; 0 where no field is at fault
+pub record Asked : Type 0 where
+  pub holds : Bool
+  pub alarm : ℕ
+  pub octet : ℕ
+
+abbrev pub check : Bool → ℕ → ℕ → Asked
+check holds alarm octet = record { holds = holds; alarm = alarm; octet = octet }
+
+-- a row: the code, the links that allow it, its checks in order; if all hold, what changes in the state record, what the body has, what is stored
+pub record Row : Type 0 where
+  pub code : ℕ
+  pub links : List ℕ
+  pub checks : List Asked
+  pub state : List Piece
+  pub body : List Piece
+  pub memory : List Piece
+
+abbrev pub row : ℕ → List ℕ → List Asked → List Piece → List Piece → List Piece → Row
+row code links checks state body memory = record { code = code; links = links; checks = checks; state = state; body = body; memory = memory }
+
+-- the sheet's parameter of a number and ID item of a code; where there is none, one of zeros, which no check lets through
+unfoldable pub parameterOf : List Parameter → ℕ → Parameter
+parameterOf [] n = record { number = 0; address = 0; size = 0 }
+parameterOf (p ∷ ps) n = when (eqb (p .number) n) p (parameterOf ps n)
+
+unfoldable pub itemOf : List Item → ℕ → Item
+itemOf [] n = record { code = 0; length = 0; octets = [] }
+itemOf (i ∷ is) n = when (eqb (i .code) n) i (itemOf is n)
+
+-- the command's octets from one to another, again
+abbrev pub again : List ℕ → ℕ → ℕ → Piece
+again c from to = piece from (take (to + 1 - from) (drop from c))
+
+-- octet 5 of the memory commands: elements of 1, 2 or 4 octets, 0 where it is none of these. Document 01 has 1 in the high half and 1, 2 or 3 in the low
+-- half; by 002, 4.3.3.13, the halves stand the other way round, and "002 decides"
+abbrev pub element : ℕ → ℕ
+element mode = when (eqb mode 0x11) 1 (when (eqb mode 0x21) 2 (when (eqb mode 0x31) 4 0))
+
+-- com_mod: "bit 1 synchronous, bits 2-3 transfer ..; bit 7 and bits 0, 4, 5, 6 must be 0; transfer 0 or 1; transfer 1 needs bit 1": so it is 0 or 2 with
+-- transfer 0, and 6 with transfer 1
+abbrev pub comMod : ℕ → Bool
+comMod x = oneOf x (0 ∷ 2 ∷ 6 ∷ [])
+
+-- the rows for a sheet h, a state record s, a memory m and a command c
+module _ (h : Sheet) (s m c : List ℕ) where
+  abbrev pub parameter : Parameter
+  parameter = parameterOf (h .parameters) (number c 4 2)
+
+  -- 01 and 02: "4-5 number in sheet; 6 size equal to its size and at most L - 8; span mapped", then "Rights over the whole span: alarm 10"
+  abbrev pub parameterChecks : (ℕ → Bool) → List Asked
+  parameterChecks right =
+      check (oneOf (number c 4 2) (map (λ (p : Parameter). p .number) (h .parameters))) 9 4
+      ∷ check (eqb (octet c 6) (parameter .size)) 9 6
+      ∷ check (leb (octet c 6) (h .l - 8)) 9 6
+      ∷ check (hasAll mapped (cells (h .regions)) (parameter .address) (parameter .size)) 9 4
+      ∷ check (hasAll right (cells (h .regions)) (parameter .address) (parameter .size)) 10 0
+      ∷ []
+
+  abbrev pub item : Item
+  item = itemOf (h .items) (octet c 4)
+
+  -- "n = count times element"
+  abbrev pub span : ℕ
+  span = number c 6 2 * element (octet c 5)
+
+  -- 1D and 1E: octet 5; "6-7 count; n .. 1 to L - 12; 8-11 address, all n octets in regions", then rights
+  abbrev pub memoryChecks : (ℕ → Bool) → List Asked
+  memoryChecks right =
+      check (leb 1 (element (octet c 5))) 9 5
+      ∷ check (leb 1 span) 9 6
+      ∷ check (leb span (h .l - 12)) 9 6
+      ∷ check (hasAll mapped (cells (h .regions)) (number c 8 4) span) 9 8
+      ∷ check (hasAll right (cells (h .regions)) (number c 8 4) span) 10 0
+      ∷ []
+
+  -- "Disconnected allows NOP, CONNECT, DISCONNECT. CONNECT is allowed nowhere else. SYNC_SET needs link 2. All others are allowed in links 2 and 3."
+  -- Each row: code, links, checks; what changes in the state record, the body, what is stored by addresses
+  abbrev pub table : List Row
+  table =
+      -- NOP
+      row 0x00 (1 ∷ 2 ∷ 3 ∷ []) [] [] [] []
+      -- PRM_RD, PRM_WR: "octets 4 to 6 again; from 8 the octets read or written"
+      ∷ row 0x01 (2 ∷ 3 ∷ []) (parameterChecks readable)
+      [] (again c 4 6 ∷ piece 8 (held (cells (h .regions)) m (parameter .address) (parameter .size)) ∷ []) []
+      ∷ row 0x02 (2 ∷ 3 ∷ []) (parameterChecks (writable (link s)))
+      [] (again c 4 6 ∷ piece 8 (take (parameter .size) (drop 8 c)) ∷ []) (piece (parameter .address) (take (parameter .size) (drop 8 c)) ∷ [])
+      -- ID_RD: "4 code in sheet; 5 offset; 6-7 size at least 1, offset + size within the item, size at most L - 8"; "4 to 7 again, data from 8"
+      ∷ row 0x03 (2 ∷ 3 ∷ [])
+      (check (oneOf (octet c 4) (map (λ (i : Item). i .code) (h .items))) 9 4
+      ∷ check (leb 1 (number c 6 2)) 9 6
+      ∷ check (leb (octet c 5 + number c 6 2) (item .length)) 9 6
+      ∷ check (leb (number c 6 2) (h .l - 8)) 9 6
+      ∷ [])
+      [] (again c 4 7 ∷ piece 8 (take (number c 6 2) (drop (octet c 5) (item .octets))) ∷ []) []
+      -- ALM_RD: "L at least 16; 4-5 zero"; "old command latch at 8, old communication latch at 9"
+      ∷ row 0x05 (2 ∷ 3 ∷ []) (check (leb 16 (h .l)) 9 0 ∷ check (eqb (number c 4 2) 0) 9 4 ∷ [])
+      [] (piece 8 (commandLatch s ∷ communicationLatch s ∷ []) ∷ []) []
+      -- ALM_CLR: "4-5 zero"; "both latches 0"
+      ∷ row 0x06 (2 ∷ 3 ∷ []) (check (eqb (number c 4 2) 0) 9 4 ∷ []) (piece 8 (0 ∷ []) ∷ piece 9 (0 ∷ []) ∷ []) [] []
+      -- SYNC_SET: "link 3, single transfer"
+      ∷ row 0x0D (2 ∷ []) [] (piece 1 (3 ∷ []) ∷ piece 3 (0 ∷ []) ∷ []) [] []
+      -- CONNECT: "4 version of the sheet; 5 com_mod; 6 com_time at least 1; 7 profile of the sheet"; "com_time is at least 2 with transfer 1";
+      -- "com_time and dual set; link 3 if bit 1 of com_mod, else 2"; "4 to 7 again". Bit 1 has weight 2, and transfer 1 is weight 4
+      ∷ row 0x0E (1 ∷ [])
+      (check (eqb (octet c 4) (h .version)) 9 4
+      ∷ check (comMod (octet c 5)) 9 5
+      ∷ check (leb 1 (octet c 6) && implies (bit (octet c 5) 4) (leb 2 (octet c 6))) 9 6
+      ∷ check (eqb (octet c 7) (h .profile)) 9 7
+      ∷ [])
+      (piece 1 (when (bit (octet c 5) 2) 3 2 ∷ []) ∷ piece 3 (when (bit (octet c 5) 4) 1 0 ∷ []) ∷ piece 4 (octet c 6 ∷ []) ∷ []) (again c 4 7 ∷ []) []
+      -- DISCONNECT: "link 1, com_time 0, latches kept"
+      ∷ row 0x0F (1 ∷ 2 ∷ 3 ∷ []) [] (piece 1 (1 ∷ []) ∷ piece 4 (0 ∷ []) ∷ []) [] []
+      -- MEM_RD, MEM_WR: "5 to 11 again, the n octets from 12"
+      ∷ row 0x1D (2 ∷ 3 ∷ []) (memoryChecks readable)
+      [] (again c 5 11 ∷ piece 12 (held (cells (h .regions)) m (number c 8 4) span) ∷ []) []
+      ∷ row 0x1E (2 ∷ 3 ∷ []) (memoryChecks (writable (link s)))
+      [] (again c 5 11 ∷ piece 12 (take span (drop 12 c)) ∷ []) (piece (number c 8 4) (take span (drop 12 c)) ∷ [])
+      ∷ []
