@@ -1,5 +1,5 @@
 -- For every input, what meets the promise of a call is what the tables say, and nothing else is.
-use mathlib.Core.Logic.{inl, inr, ⊎-elim, _↔_}
+use mathlib.Core.Logic.{_⊎_, inl, inr, ⊎-elim, _↔_}
 use mathlib.Core.Path.{_≡_, refl, sym, ap, subst, _∙_}
 use mathlib.Core.List.{List, []}
 use Prim.Native.Nat.{ℕ}
@@ -37,8 +37,16 @@ no-fault e = let z : _≡_ {A = ℕ} 0 1 = cc in omega arith
 same-fault : {f g : Fault} {p q : ℕ} → Faulty f p ≡ Faulty g q → (f ≡ g) × (p ≡ q)
 same-fault {f} {g} {p} {q} e = (let a : f ≡ g = cc in a, let b : p ≡ q = cc in b)
 
+some-reading : (s : List ℕ) → Every IsOctet s → ((h : Sheet) × WellFormed h × (s ≡ sheetOctets h)) ⊎ ((f : ℕ) × (p : ℕ) × FirstFault s f p)
+some-reading s o = go (verdictOf s) refl
+  where
+    go : (v : Verdict) → verdictOf s ≡ v → ((h : Sheet) × WellFormed h × (s ≡ sheetOctets h)) ⊎ ((f : ℕ) × (p : ℕ) × FirstFault s f p)
+    go (Valid lay) e = let q = sound s lay o e in inl (q .0, q .1, q .2)
+    go (Faulty f place) e = inr (numberOf f, place, fault-told s f place o e)
+
 pub one-reading : OneReading
 one-reading = record {
+  some-reading = some-reading;
   one-sheet = one-sheet;
   one-fault = λ s f g p q o x y.
       let a = fault-is s f p o x in
@@ -46,6 +54,7 @@ one-reading = record {
       let e = same-fault (sym (a .2) ∙ b .2) in
       (sym (a .1) ∙ ap numberOf (e .0) ∙ b .1, e .1);
   never-both = λ h f p w o x. no-fault (sym (complete h w) ∙ fault-is (sheetOctets h) f p o x .2);
+  some-form = λ l trace five. form-exists l five trace;
   one-form = λ l trace a b five. one-form l five trace a b;
 }
 

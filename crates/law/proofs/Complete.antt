@@ -276,7 +276,7 @@ come-behind h w rest v short go =
     (λ n z. counts n 0 0 z) (λ n z. endBefore s (counts n 0 0 z)) (omega arith) (λ x g. refl)
     (λ a t (e : 2 ≡ 0). let z : ⊥ = omega arith in z)
     (read-area s) (next-area s)
-    (h .regions) tp refl (w .regions) (none-before s) (w .apart) (w .few-regions) (w .memory) go-parameters in
+    (h .regions) tp refl (w .regions) (none-before s) (w .apart) (w .few-regions .0) (w .few-regions .1) go-parameters in
     pick-ge _ _ short
     ∙ walk-on s s none v 4 none (link-read (h .l) (h .version) (h .profile) ta (w .l)) (λ (e : 1 ≡ 0). let z : ⊥ = omega arith in z) (omega arith) (omega arith)
     go-regions (suc (length s)) (omega arith)
@@ -290,5 +290,5 @@ complete h w =
     let la = length-joined regionOctets GoodRegion 10 (λ x g. refl) (h .regions) tp (w .regions) in
     let lp = length-joined parameterOctets (GoodParameter (h .regions)) 8 (λ x g. refl) (h .parameters) ti (w .parameters) in
     let lk = length-joined itemOctets GoodItem 35 ident-long (h .items) end (w .items) in
-    come-behind h w end (Valid (layoutFor h)) (omega (arith, la, lp, lk, w .few-regions, w .few-parameters, w .few-items))
+    come-behind h w end (Valid (layoutFor h)) (omega (arith, la, lp, lk, w .few-regions .0, w .few-parameters, w .few-items))
     (end-read (sheetOctets h) (countsFor h) (omega arith))

@@ -77,10 +77,10 @@ com-mods x e =
     let q : comMod x ≡ false = not-mods x z y w in
     absurd (let z : _≡_ {A = ℕ} 0 1 = cc in let v : ⊥ = omega arith in v)) (eq-or-ne x 6)) (eq-or-ne x 2)) (eq-or-ne x 0)
 
-pub com-time : (x t : ℕ) → (x ≡ 0) ⊎ ((x ≡ 2) ⊎ (x ≡ 6)) → comTimeFits x t ≡ leb 1 t && (not (bit x 4) || leb 2 t)
+pub com-time : (x t : ℕ) → (x ≡ 0) ⊎ ((x ≡ 2) ⊎ (x ≡ 6)) → comTimeFits x t ≡ leb 1 t && (not (bit x 2) || leb 2 t)
 unfolding comTimeFits
 com-time x t three =
-    let P : ℕ → Type 0 = λ x. comTimeFits x t ≡ leb 1 t && (not (bit x 4) || leb 2 t) in
+    let P : ℕ → Type 0 = λ x. comTimeFits x t ≡ leb 1 t && (not (bit x 2) || leb 2 t) in
     ⊎-elim (λ (e : x ≡ 0). subst P (sym e) refl) (⊎-elim (λ (e : x ≡ 2). subst P (sym e) refl) (λ (e : x ≡ 6). subst P (sym e) refl)) three
 
 -- the parameter of a number

@@ -233,10 +233,9 @@ module _ (s : List ℕ) (octs : Every IsOctet s) where
           apart = row-listed _ _ r (λ i h. ok .regions-rise i h);
           numbers-rise = row-listed _ _ p (λ i h. ok .parameters-rise i h);
           codes-rise = row-listed _ _ k rising;
-          few-regions = rw (length-listed (λ (i : ℕ). asArea (regionAt s i)) 0 r) (ok .few-regions);
+          few-regions = (rw (length-listed (λ (i : ℕ). asArea (regionAt s i)) 0 r) (ok .few-regions), let e = sum-listed (regionAt s) 0 r in omega (arith, e, ok .memory-sum, ok .memory-room));
           few-parameters = rw (length-listed (λ (j : ℕ). asParam (parameterAt s r j)) 0 p) (ok .few-parameters);
           few-items = rw (length-listed (λ (j : ℕ). identFrom s (4 + 10 * r + 8 * p + 35 * j)) 0 k) (ok .few-items);
-          memory = let e = sum-listed (regionAt s) 0 r in omega (arith, e, ok .memory-sum, ok .memory-room);
         }
 
     pub front-written : s ≡ written (readSheet s so) (drop at s)

@@ -117,11 +117,11 @@ module _ (mn : ℕ) (st : LinkState) {l : ℕ} (f : Facts l st) (z : st .link �
   -- CONNECT by its com_mod
   pub connect-goes : (x time : ℕ) → (x ≡ 0) ⊎ ((x ≡ 2) ⊎ (x ≡ 6)) → oneOf (link (octetsOf st)) (1 ∷ []) ≡ true
       → Goes st (counting st (connected st (pick (eqb (x / 2 % 2) 1) 3 2) (x / 4 % 4) time) mn) mn
-      (piece 1 (when (bit x 2) 3 2 ∷ []) ∷ piece 3 (when (bit x 4) 1 0 ∷ []) ∷ piece 4 (time ∷ []) ∷ [])
+      (piece 1 (when (bit x 1) 3 2 ∷ []) ∷ piece 3 (when (bit x 2) 1 0 ∷ []) ∷ piece 4 (time ∷ []) ∷ [])
   unfolding pick when
   connect-goes x time three ok =
       let P : ℕ → Type 0 = λ x. Goes st (counting st (connected st (pick (eqb (x / 2 % 2) 1) 3 2) (x / 4 % 4) time) mn) mn
-      (piece 1 (when (bit x 2) 3 2 ∷ []) ∷ piece 3 (when (bit x 4) 1 0 ∷ []) ∷ piece 4 (time ∷ []) ∷ []) in
+      (piece 1 (when (bit x 1) 3 2 ∷ []) ∷ piece 3 (when (bit x 2) 1 0 ∷ []) ∷ piece 4 (time ∷ []) ∷ []) in
       ⊎-elim (λ (e : x ≡ 0). subst P (sym e) (goes-connected 2 0 time (inr refl) ok))
       (⊎-elim (λ (e : x ≡ 2). subst P (sym e) (goes-connected 3 0 time (inl refl) ok))
       (λ (e : x ≡ 6). subst P (sym e) (goes-connected 3 1 time (inl refl) ok))) three

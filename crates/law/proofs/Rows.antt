@@ -17,7 +17,7 @@ use Rattle.law.specs.Words.{when, number, oneOf, Piece, piece, over, bit
 use Rattle.law.specs.Sheet.{Item as Ident, Sheet}
 use Rattle.law.specs.State.{link}
 use Rattle.law.specs.Memory.{cells, stored, held, hasAll, mapped}
-use Rattle.law.specs.Table.{Asked, check, row, comMod, again, parameterChecks as paramChecks, memoryChecks as memChecks, parameter as param, item as ident, span, element}
+use Rattle.law.specs.Table.{Asked, check, row, comMod, again, parameterChecks as paramChecks, memoryChecks as memChecks, parameter as param, item as ident, n as span, element}
 use Rattle.law.specs.Exchange.{Fate, fate, refused, checked}
 use Rattle.link.specs.Steps.{cleared}
 use Rattle.link.specs.Stored.{octetsOf}
@@ -229,11 +229,11 @@ module _ (h : Sheet) (sheet : List ℕ) (st : LinkState) (m c : List ℕ) where
           → J (connectOf (layoutFor h) st cmd) (checked s (
           check (eqb (getD c 4 0) (h .version)) 9 4
           ∷ check (comMod (getD c 5 0)) 9 5
-          ∷ check (leb 1 (getD c 6 0) && (not (bit (getD c 5 0) 4) || leb 2 (getD c 6 0))) 9 6
+          ∷ check (leb 1 (getD c 6 0) && (not (bit (getD c 5 0) 2) || leb 2 (getD c 6 0))) 9 6
           ∷ check (eqb (getD c 7 0) (h .profile)) 9 7
           ∷ []
           ) (row n ns ks
-          (piece 1 (when (bit (getD c 5 0) 2) 3 2 ∷ []) ∷ piece 3 (when (bit (getD c 5 0) 4) 1 0 ∷ []) ∷ piece 4 (getD c 6 0 ∷ []) ∷ []) (again c 4 7 ∷ []) []))
+          (piece 1 (when (bit (getD c 5 0) 1) 3 2 ∷ []) ∷ piece 3 (when (bit (getD c 5 0) 2) 1 0 ∷ []) ∷ piece 4 (getD c 6 0 ∷ []) ∷ []) (again c 4 7 ∷ []) []))
       unfolding connectOf checked memoryAfter
       connect-row n ns ks ok =
           step _ _ 9 refl (λ a.

@@ -1,4 +1,4 @@
--- The theorem: for every input, what meets the promise of a call is what the tables say, to the octet, and nothing else is.
+-- The theorem: for every sheet of octets, and whatever else is lent, what meets the promise of a call is what the tables say, to the octet, and nothing else.
 use Prim.Native.Nat.{ℕ}
 use mathlib.Core.List.{List, []}
 use mathlib.Core.Logic.{_⊎_, _↔_}
@@ -15,23 +15,25 @@ use Rattle.law.specs.Faults.{FirstFault}
 use Rattle.law.specs.Calls.{Result, result, sheetTold, lengths, reset, enable, exchange}
 use Rattle.law.specs.Trace.{Form, HasForm, replay}
 
--- what a host has behind a call, octets that the call does not write left out
+-- what a host has after a call; [] for a buffer that the call has not
 abbrev pub has : ℕ → List ℕ → List ℕ → List ℕ → Result
 has answer state memory reply = record { answer = answer; state = state; memory = memory; reply = reply }
 
--- "Order: sheet, ..": the sheet is the writing of a well-formed one, and the call does what it does for that; or its first fault is told
+-- "Order: sheet, ..": the sheet is the writing of a well-formed one, and the call does what it does for that; or it has a first fault, and is refused
 abbrev pub ByLaw : List ℕ → (Sheet → Result → Type 0) → (ℕ → ℕ → Result) → Result → Type 0
 ByLaw sheet Good refusal x =
     ((h : Sheet) × WellFormed h × (sheet ≡ sheetOctets h) × Good h x) ⊎ ((f : ℕ) × (place : ℕ) × FirstFault sheet f place × (x ≡ refusal f place))
 
--- "A sheet is accepted exactly when it is the writing of a well-formed one, and of one only", and every fault with its place is the first of the sheet's
+-- octets are the writing of one well-formed sheet, or have one first fault with one place, and never both; and a trace has one form
 pub record OneReading : Type 0 where
+  pub some-reading : (s : List ℕ) → Every IsOctet s → ((h : Sheet) × WellFormed h × (s ≡ sheetOctets h)) ⊎ ((f : ℕ) × (p : ℕ) × FirstFault s f p)
   pub one-sheet : (a b : Sheet) → WellFormed a → WellFormed b → sheetOctets a ≡ sheetOctets b → a ≡ b
   pub one-fault : (s : List ℕ) (f g p q : ℕ) → Every IsOctet s → FirstFault s f p → FirstFault s g q → (f ≡ g) × (p ≡ q)
   pub never-both : (h : Sheet) (f p : ℕ) → WellFormed h → Every IsOctet (sheetOctets h) → FirstFault (sheetOctets h) f p → ⊥
+  pub some-form : (l : ℕ) (trace : List ℕ) → FiveLengths l → (form : Form) × HasForm l trace form
   pub one-form : (l : ℕ) (trace : List ℕ) (a b : Form) → FiveLengths l → HasForm l trace a → HasForm l trace b → a ≡ b
 
--- each call of type24/src/lib.rt: on the left its promise, word for word, on the right the law. What a host lends are octets, and so below 256
+-- each call of type24/src/lib.rt: on the left its promise, word for word, on the right the law. t24_lengths tells 0 for any sheet that is refused
 pub record ByTables : Type 0 where
   pub sheets : (sheet : List ℕ) (a : ℕ) → Every IsOctet sheet
       → (a ≡ packed (sheetAnswer (verdictOf sheet)))

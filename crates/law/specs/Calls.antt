@@ -1,4 +1,5 @@
--- "What each call tells", for a good sheet. A refusal leaves state, memory and reply as they were.
+-- "What each call tells", for a good sheet. A refusal leaves state, memory and reply as they were, and "Place is 0 except for 11 to 17". "That the buffers
+-- are distinct is the host's duty": here they are lists of their own.
 use Prim.Native.Nat.{ℕ, _+_, _*_}
 use mathlib.Core.Bool.{not}
 use mathlib.Core.List.{List, [], _∷_}
@@ -10,22 +11,22 @@ use Rattle.law.specs.State.{link, validState}
 use Rattle.law.specs.Memory.{cells, stored}
 use Rattle.law.specs.Exchange.{Fate, mn, fateOf, stateAfter, replyFor}
 
--- what a host has behind a call: one number for the answer, and what the octets hold that it lent to be written; [] for those that the call has not
+-- what a host has after a call: one number for the answer, and what the buffers hold that it lent to be written; [] for a buffer that the call has not
 pub record Result : Type 0 where
   pub answer : ℕ
   pub state : List ℕ
   pub memory : List ℕ
   pub reply : List ℕ
 
--- the answer is the number + 2^32 times the place
+-- the answer is the number + 2^32 times the place; that they are joined so is our own
 abbrev pub result : ℕ → ℕ → List ℕ → List ℕ → List ℕ → Result
 result number place state memory reply = record { answer = number + 4294967296 * place; state = state; memory = memory; reply = reply }
 
--- t24_sheet: a good sheet is told by 0
+-- t24_sheet and t24_lengths are our own. A good sheet is told by 0
 abbrev pub sheetTold : Sheet → Result
 sheetTold h = result 0 0 [] [] []
 
--- t24_lengths: L + 2^32 times the length of the memory
+-- and its lengths as L + 2^32 times that of the memory
 abbrev pub lengths : Sheet → Result
 lengths h = result (h .l) (room (h .regions)) [] [] []
 

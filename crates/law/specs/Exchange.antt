@@ -1,12 +1,12 @@
 -- "One exchange": what every exchange does around the table.
 use Prim.Native.Nat.{ℕ, _+_, _*_, _%_}
-use mathlib.Core.Bool.{not, _&&_}
+use mathlib.Core.Bool.{Bool, not, _&&_}
 use mathlib.Core.List.{List, [], _∷_}
 use lib.Dec.{eqb}
 use lib.ListN.{replicate}
 use Rattle.law.specs.Words.{when, oneOf, octet, Piece, piece, over}
 use Rattle.law.specs.Sheet.{Sheet}
-use Rattle.law.specs.State.{link, rsn, commandLatch, communicationLatch}
+use Rattle.law.specs.State.{link, mnKnown, lastMn, rsn, commandLatch, communicationLatch}
 use Rattle.law.specs.Table.{Asked, check, Row, table}
 
 -- "Command: octet 0 code, octet 1 WDT (low half MN, high half SN), octets 2 and 3 control, ignored."
@@ -40,9 +40,12 @@ judged s code (r ∷ rs) = when (eqb code (r .code)) (checked s (check (oneOf (l
 
 -- "1. Link 3 with MN known: MN must be last MN plus 1, modulo 16. If not, nothing is executed, the body is zero, the communication latch becomes 12, the
 -- command alarm is 0, the link becomes 2."
+abbrev pub missed : List ℕ → List ℕ → Bool
+missed s c = eqb (link s) 3 && (eqb (mnKnown s) 1 && not (eqb (mn c) ((lastMn s + 1) % 16)))
+
 unfoldable pub fateOf : Sheet → List ℕ → List ℕ → List ℕ → Fate
 fateOf h s m c =
-    when (eqb (link s) 3 && (eqb (octet s 5) 1 && not (eqb (mn c) ((octet s 6 + 1) % 16))))
+    when (missed s c)
     (fate 0 (piece 1 (2 ∷ []) ∷ piece 9 (12 ∷ []) ∷ []) [] [])
     (judged s (octet c 0) (table h s m c))
 

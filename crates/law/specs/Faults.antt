@@ -4,8 +4,8 @@ use mathlib.Core.List.{List, [], _∷_, _++_}
 use mathlib.Core.Logic.{_⊎_}
 use mathlib.Core.Path.{_≡_}
 use lib.ListN.{length, getD}
-use Rattle.law.specs.Words.{Some, Check, NoMore}
-use Rattle.law.specs.Sheet.{Region, Parameter, Item, Sheet, GoodRegion, GoodItem, WellFormed, FiveLengths, Apart, NumbersRise, CodesRise, Has, regionOctets, parameterOctets, itemOctets, written, room}
+use Rattle.law.specs.Words.{Check, NoMore}
+use Rattle.law.specs.Sheet.{Region, Parameter, Item, Sheet, GoodRegion, GoodItem, WellFormed, FiveLengths, Apart, NumbersRise, CodesRise, Spanned, FewRegions, FewParameters, FewItems, regionOctets, parameterOctets, itemOctets, written}
 
 -- what stands before the record at fault: nothing, or records of which a sheet could consist
 pub data Sofar : Type 0 where
@@ -21,7 +21,7 @@ abbrev pub GoodSofar : Sofar → Type 0
 GoodSofar nothing = Unit {0}
 GoodSofar (records h) = WellFormed h
 
--- "The link record comes first and once; then regions, parameters, ID items, end"
+-- "The link record comes first and once; then regions, parameters, ID items, end": an end record first is out of place too
 abbrev pub InPlace : Sofar → ℕ → Type 0
 InPlace nothing kind = kind ≡ 1
 InPlace (records h) kind =
@@ -42,26 +42,26 @@ recordLength (suc (suc (suc (suc n)))) = 35
 abbrev pub RegionFault : Sheet → Region → ℕ → Type 0
 RegionFault h r =
     Check 14 (GoodRegion r)
-    (Check 16 ((length (h .regions ++ r ∷ []) ≤ 32) × (room (h .regions ++ r ∷ []) ≤ 65536))
+    (Check 16 (FewRegions (h .regions ++ r ∷ []))
     (Check 15 (Apart (h .regions ++ r ∷ []))
     NoMore))
 
 abbrev pub ParameterFault : Sheet → Parameter → ℕ → Type 0
 ParameterFault h p =
     Check 14 ((1 ≤ p .size) × (p .size ≤ 56))
-    (Check 16 (length (h .parameters ++ p ∷ []) ≤ 64)
+    (Check 16 (FewParameters (h .parameters ++ p ∷ []))
     (Check 15 (NumbersRise (h .parameters ++ p ∷ []))
-    (Check 17 ((a : ℕ) → p .address ≤ a → a < p .address + p .size → Some (Has a) (h .regions))
+    (Check 17 (Spanned (h .regions) p)
     NoMore)))
 
 abbrev pub ItemFault : Sheet → Item → ℕ → Type 0
 ItemFault h i =
     Check 14 (GoodItem i)
-    (Check 16 (length (h .items ++ i ∷ []) ≤ 32)
+    (Check 16 (FewItems (h .items ++ i ∷ []))
     (Check 15 (CodesRise (h .items ++ i ∷ []))
     NoMore))
 
--- the record that stands there, each number in the octets that it has, and its fault
+-- the record that `rest` begins with, its numbers fitting their octets, and its fault
 abbrev pub BodyFault : Sofar → List ℕ → ℕ → Type 0
 BodyFault nothing rest f = Check 14 (FiveLengths (getD rest 1 0)) NoMore f
 BodyFault (records h) rest f =

@@ -1,4 +1,5 @@
--- Document 01 as tables, in its order. It shares no definition with the machine; ByTables says that the calls do what it says.
+-- Document 01, and request 6 of document 02, as tables, each word before its use. They share no definition with the machine; ByTables says that the calls
+-- do what they say. A quotation is the paper's own words; where its table has columns, they are joined by a colon.
 pub mod Words
 pub mod Sheet
 pub mod Faults

@@ -28,17 +28,17 @@ abbrev pub mapped : ℕ → Bool
 mapped rights = true
 
 abbrev pub readable : ℕ → Bool
-readable rights = bit rights 1
+readable rights = bit rights 0
 
 abbrev pub writable : ℕ → ℕ → Bool
-writable link rights = when (eqb link 3) (bit rights 4) (bit rights 2)
+writable link rights = when (eqb link 3) (bit rights 2) (bit rights 1)
 
 -- the octet at an address is in a region, and its rights have what is asked
 unfoldable pub has : (ℕ → Bool) → List Cell → ℕ → Bool
 has asked [] a = false
 has asked (x ∷ xs) a = when (eqb (x .address) a) (asked (x .rights)) (has asked xs a)
 
--- and so has each of n octets from an address on
+-- and so has each of n octets from an address on: "A span may cross from one region to the next where no address is missing between them"
 unfoldable pub hasAll : (ℕ → Bool) → List Cell → ℕ → ℕ → Bool
 hasAll asked cs a zero = true
 hasAll asked cs a (suc n) = has asked cs a && hasAll asked cs (suc a) n
@@ -52,7 +52,7 @@ unfoldable pub held : List Cell → List ℕ → ℕ → ℕ → List ℕ
 held cs ms a zero = []
 held cs ms a (suc n) = heldAt cs ms a ∷ held cs ms (suc a) n
 
--- the memory with pieces of the address space laid over it: "A write stores its own octets and no others"
+-- the memory with pieces of the address space laid over it: "Data enters .. memory at the span's place; nothing before or after is touched"
 unfoldable pub stored : List Piece → List Cell → List ℕ → List ℕ
 stored ps [] ms = []
 stored ps (x ∷ xs) [] = []

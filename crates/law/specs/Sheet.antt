@@ -16,7 +16,7 @@ pub record Parameter : Type 0 where
   pub address : ℕ
   pub size : ℕ
 
--- an ID item; its octets are all 32
+-- an ID item; `octets` are all 32, those past its length too
 pub record Item : Type 0 where
   pub code : ℕ
   pub length : ℕ
@@ -72,13 +72,17 @@ pub record GoodRegion (r : Region) : Type 0 where
 abbrev pub Has : ℕ → Region → Type 0
 Has a r = (r .start ≤ a) × (a < r .start + r .length)
 
--- number and address fit 2 and 4 octets. "Parameter size 1 to 56. .. A parameter's span lies wholly in regions."
+-- "A parameter's span lies wholly in regions."
+abbrev pub Spanned : List Region → Parameter → Type 0
+Spanned regions p = (a : ℕ) → p .address ≤ a → a < p .address + p .size → Some (Has a) regions
+
+-- number and address fit 2 and 4 octets. "Parameter size 1 to 56."
 pub record GoodParameter (regions : List Region) (p : Parameter) : Type 0 where
   pub number : p .number < 65536
   pub address : p .address < 4294967296
   pub some : 1 ≤ p .size
   pub most : p .size ≤ 56
-  pub spans : (a : ℕ) → p .address ≤ a → a < p .address + p .size → Some (Has a) regions
+  pub spans : Spanned regions p
 
 -- "ID length 1 to 32, the octets past it zero"
 pub record GoodItem (i : Item) : Type 0 where
@@ -104,6 +108,17 @@ NumbersRise ps = InARow (λ (a b : Parameter). a .number < b .number) ps
 abbrev pub CodesRise : List Item → Type 0
 CodesRise is = InARow (λ (a b : Item). a .code < b .code) is
 
+-- "At most 32 regions, 64 parameters, 32 ID items, 65,536 octets of memory"
+abbrev pub FewRegions : List Region → Type 0
+FewRegions rs = (length rs ≤ 32) × (room rs ≤ 65536)
+
+abbrev pub FewParameters : List Parameter → Type 0
+FewParameters ps = length ps ≤ 64
+
+abbrev pub FewItems : List Item → Type 0
+FewItems is = length is ≤ 32
+
+-- "2,048 octets of sheet" follow: these are 1,957 at most. A sheet may have no region, no parameter and no ID item
 pub record WellFormed (h : Sheet) : Type 0 where
   pub l : FiveLengths (h .l)
   pub version : IsOctet (h .version)
@@ -114,8 +129,6 @@ pub record WellFormed (h : Sheet) : Type 0 where
   pub apart : Apart (h .regions)
   pub numbers-rise : NumbersRise (h .parameters)
   pub codes-rise : CodesRise (h .items)
-  -- "At most 32 regions, 64 parameters, 32 ID items, 65,536 octets of memory"; "2,048 octets of sheet" follow: this makes 1,957 at most
-  pub few-regions : length (h .regions) ≤ 32
-  pub few-parameters : length (h .parameters) ≤ 64
-  pub few-items : length (h .items) ≤ 32
-  pub memory : room (h .regions) ≤ 65536
+  pub few-regions : FewRegions (h .regions)
+  pub few-parameters : FewParameters (h .parameters)
+  pub few-items : FewItems (h .items)

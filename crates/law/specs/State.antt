@@ -12,6 +12,18 @@ use Rattle.law.specs.Sheet.{Sheet}
 abbrev pub link : List ℕ → ℕ
 link s = octet s 1
 
+abbrev pub dual : List ℕ → ℕ
+dual s = octet s 3
+
+abbrev pub comTime : List ℕ → ℕ
+comTime s = octet s 4
+
+abbrev pub mnKnown : List ℕ → ℕ
+mnKnown s = octet s 5
+
+abbrev pub lastMn : List ℕ → ℕ
+lastMn s = octet s 6
+
 abbrev pub rsn : List ℕ → ℕ
 rsn s = octet s 7
 
@@ -29,21 +41,22 @@ clauses h s =
     ∷ leb (link s) 3
     ∷ eqb (octet s 2) (h .l)
     -- "dual transfer 0 or 1"; "MN known 0 or 1"; "last MN 0 to 15"; "RSN 0 to 15"
-    ∷ leb (octet s 3) 1
-    ∷ leb (octet s 5) 1
-    ∷ leb (octet s 6) 15
+    ∷ leb (dual s) 1
+    ∷ leb (mnKnown s) 1
+    ∷ leb (lastMn s) 15
     ∷ leb (rsn s) 15
+    -- "latched command alarm (0, 8, 9, 10, 12); latched communication alarm (0, 12)"
     ∷ oneOf (commandLatch s) (0 ∷ 8 ∷ 9 ∷ 10 ∷ 12 ∷ [])
     ∷ oneOf (communicationLatch s) (0 ∷ 12 ∷ [])
     -- "com_time is nonzero exactly in links 2 and 3"
-    ∷ implies (leb 2 (link s)) (leb 1 (octet s 4))
-    ∷ implies (leb (link s) 1) (eqb (octet s 4) 0)
+    ∷ implies (leb 2 (link s)) (leb 1 (comTime s))
+    ∷ implies (leb (link s) 1) (eqb (comTime s) 0)
     -- "dual is 0 outside link 3 and dual 1 has com_time at least 2"
-    ∷ implies (not (eqb (link s) 3)) (eqb (octet s 3) 0)
-    ∷ implies (eqb (octet s 3) 1) (leb 2 (octet s 4))
+    ∷ implies (not (eqb (link s) 3)) (eqb (dual s) 0)
+    ∷ implies (eqb (dual s) 1) (leb 2 (comTime s))
     -- "the MN and RSN fields are zero outside link 3, last MN and RSN are zero when MN is not known"
-    ∷ implies (not (eqb (link s) 3)) (eqb (octet s 5) 0 && (eqb (octet s 6) 0 && eqb (rsn s) 0))
-    ∷ implies (eqb (octet s 5) 0) (eqb (octet s 6) 0 && eqb (rsn s) 0)
+    ∷ implies (not (eqb (link s) 3)) (eqb (mnKnown s) 0 && (eqb (lastMn s) 0 && eqb (rsn s) 0))
+    ∷ implies (eqb (mnKnown s) 0) (eqb (lastMn s) 0 && eqb (rsn s) 0)
     -- "both alarms are zero in link 0"
     ∷ implies (eqb (link s) 0) (eqb (commandLatch s) 0 && eqb (communicationLatch s) 0)
     ∷ []

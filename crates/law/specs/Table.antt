@@ -9,7 +9,8 @@ use Rattle.law.specs.Sheet.{Parameter, Item, Sheet}
 use Rattle.law.specs.State.{link, commandLatch, communicationLatch}
 use Rattle.law.specs.Memory.{cells, mapped, readable, writable, hasAll, held}
 
--- a check: whether it holds, its alarm, and the octet of the command at which its field begins; 0 where no field is at fault
+-- a check: whether it holds, its alarm, and the octet of the command at which its field begins, 0 where no field is at fault; the octet is for request 3,
+-- and nothing asks it yet
 pub record Asked : Type 0 where
   pub holds : Bool
   pub alarm : ℕ
@@ -30,7 +31,7 @@ pub record Row : Type 0 where
 abbrev pub row : ℕ → List ℕ → List Asked → List Piece → List Piece → List Piece → Row
 row code links checks state body memory = record { code = code; links = links; checks = checks; state = state; body = body; memory = memory }
 
--- the sheet's parameter of a number and ID item of a code; where there is none, one of zeros, which no check lets through
+-- the sheet's parameter of a number and ID item of a code; where there is none, one of zeros, and the row's first check refuses
 unfoldable pub parameterOf : List Parameter → ℕ → Parameter
 parameterOf [] n = record { number = 0; address = 0; size = 0 }
 parameterOf (p ∷ ps) n = when (eqb (p .number) n) p (parameterOf ps n)
@@ -44,9 +45,9 @@ abbrev pub again : List ℕ → ℕ → ℕ → Piece
 again c from to = piece from (take (to + 1 - from) (drop from c))
 
 -- octet 5 of the memory commands: elements of 1, 2 or 4 octets, 0 where it is none of these. Document 01 has 1 in the high half and 1, 2 or 3 in the low
--- half; by 002, 4.3.3.13, the halves stand the other way round, and "002 decides"
+-- half; by 002, 4.3.3.13, 4.3.3.14 and 5.2.3, the halves stand the other way round, and "002 decides"
 abbrev pub element : ℕ → ℕ
-element mode = when (eqb mode 0x11) 1 (when (eqb mode 0x21) 2 (when (eqb mode 0x31) 4 0))
+element x = when (eqb x 0x11) 1 (when (eqb x 0x21) 2 (when (eqb x 0x31) 4 0))
 
 -- com_mod: "bit 1 synchronous, bits 2-3 transfer ..; bit 7 and bits 0, 4, 5, 6 must be 0; transfer 0 or 1; transfer 1 needs bit 1": so it is 0 or 2 with
 -- transfer 0, and 6 with transfer 1
@@ -72,20 +73,22 @@ module _ (h : Sheet) (s m c : List ℕ) where
   item = itemOf (h .items) (octet c 4)
 
   -- "n = count times element"
-  abbrev pub span : ℕ
-  span = number c 6 2 * element (octet c 5)
+  abbrev pub n : ℕ
+  n = number c 6 2 * element (octet c 5)
 
-  -- 1D and 1E: octet 5; "6-7 count; n .. 1 to L - 12; 8-11 address, all n octets in regions", then rights
+  -- 1D and 1E: octet 5; "6-7 count; n .. 1 to L - 12; 8-11 address, all n octets in regions", then rights. At L 8, L - 12 counts as 0: "alarm 9 at the
+  -- count at the latest"
   abbrev pub memoryChecks : (ℕ → Bool) → List Asked
   memoryChecks right =
       check (leb 1 (element (octet c 5))) 9 5
-      ∷ check (leb 1 span) 9 6
-      ∷ check (leb span (h .l - 12)) 9 6
-      ∷ check (hasAll mapped (cells (h .regions)) (number c 8 4) span) 9 8
-      ∷ check (hasAll right (cells (h .regions)) (number c 8 4) span) 10 0
+      ∷ check (leb 1 n) 9 6
+      ∷ check (leb n (h .l - 12)) 9 6
+      ∷ check (hasAll mapped (cells (h .regions)) (number c 8 4) n) 9 8
+      ∷ check (hasAll right (cells (h .regions)) (number c 8 4) n) 10 0
       ∷ []
 
   -- "Disconnected allows NOP, CONNECT, DISCONNECT. CONNECT is allowed nowhere else. SYNC_SET needs link 2. All others are allowed in links 2 and 3."
+  -- "Not built: .. CONFIG, the PPRM commands": 002's codes 04, 1B and 1C have no row, and are unknown. "unnamed command octets ignored"
   -- Each row: code, links, checks; what changes in the state record, the body, what is stored by addresses
   abbrev pub table : List Row
   table =
@@ -112,19 +115,19 @@ module _ (h : Sheet) (s m c : List ℕ) where
       -- SYNC_SET: "link 3, single transfer"
       ∷ row 0x0D (2 ∷ []) [] (piece 1 (3 ∷ []) ∷ piece 3 (0 ∷ []) ∷ []) [] []
       -- CONNECT: "4 version of the sheet; 5 com_mod; 6 com_time at least 1; 7 profile of the sheet"; "com_time is at least 2 with transfer 1";
-      -- "com_time and dual set; link 3 if bit 1 of com_mod, else 2"; "4 to 7 again". Bit 1 has weight 2, and transfer 1 is weight 4
+      -- "com_time and dual set; link 3 if bit 1 of com_mod, else 2"; "4 to 7 again". With such a com_mod, transfer is 1 where bit 2 is set
       ∷ row 0x0E (1 ∷ [])
       (check (eqb (octet c 4) (h .version)) 9 4
       ∷ check (comMod (octet c 5)) 9 5
-      ∷ check (leb 1 (octet c 6) && implies (bit (octet c 5) 4) (leb 2 (octet c 6))) 9 6
+      ∷ check (leb 1 (octet c 6) && implies (bit (octet c 5) 2) (leb 2 (octet c 6))) 9 6
       ∷ check (eqb (octet c 7) (h .profile)) 9 7
       ∷ [])
-      (piece 1 (when (bit (octet c 5) 2) 3 2 ∷ []) ∷ piece 3 (when (bit (octet c 5) 4) 1 0 ∷ []) ∷ piece 4 (octet c 6 ∷ []) ∷ []) (again c 4 7 ∷ []) []
+      (piece 1 (when (bit (octet c 5) 1) 3 2 ∷ []) ∷ piece 3 (when (bit (octet c 5) 2) 1 0 ∷ []) ∷ piece 4 (octet c 6 ∷ []) ∷ []) (again c 4 7 ∷ []) []
       -- DISCONNECT: "link 1, com_time 0, latches kept"
       ∷ row 0x0F (1 ∷ 2 ∷ 3 ∷ []) [] (piece 1 (1 ∷ []) ∷ piece 4 (0 ∷ []) ∷ []) [] []
       -- MEM_RD, MEM_WR: "5 to 11 again, the n octets from 12"
       ∷ row 0x1D (2 ∷ 3 ∷ []) (memoryChecks readable)
-      [] (again c 5 11 ∷ piece 12 (held (cells (h .regions)) m (number c 8 4) span) ∷ []) []
+      [] (again c 5 11 ∷ piece 12 (held (cells (h .regions)) m (number c 8 4) n) ∷ []) []
       ∷ row 0x1E (2 ∷ 3 ∷ []) (memoryChecks (writable (link s)))
-      [] (again c 5 11 ∷ piece 12 (take span (drop 12 c)) ∷ []) (piece (number c 8 4) (take span (drop 12 c)) ∷ [])
+      [] (again c 5 11 ∷ piece 12 (take n (drop 12 c)) ∷ []) (piece (number c 8 4) (take n (drop 12 c)) ∷ [])
       ∷ []

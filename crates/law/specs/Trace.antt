@@ -15,7 +15,7 @@ pub record Traced : Type 0 where
   pub command : List ℕ
   pub reply : List ℕ
 
--- the kind for an L
+-- the kind for an L, which is one of the five
 abbrev pub kindFor : ℕ → ℕ
 kindFor l = when (eqb l 8) 0x21 (when (eqb l 16) 0x22 (when (eqb l 32) 0x23 (when (eqb l 48) 0x24 0x25)))
 
@@ -54,7 +54,8 @@ alike (x ∷ xs) (y ∷ ys) = when (eqb x y) (suc (alike xs ys)) 0
 
 -- "tell the first record whose reply is not our machine's, with its number and the first differing octet, or that all agree, with the final state and
 -- memory. .. Records are numbered from 0; on a difference, state and memory stand as before that record": 0 with the number of records, or 34 with
--- 64 times the record's number + the octet. From record k on, each answered as an exchange is
+-- 64 times the record's number + the octet; these numbers are our own. From record k on. Each command is done without an exchange's refusals, since they
+-- cannot be: the state stays valid and enabled, the memory keeps its length, and a whole record has L
 unfoldable pub played : Sheet → ℕ → List ℕ → List ℕ → List Traced → Result
 played h k s m [] = result 0 k s m []
 played h k s m (t ∷ ts) =
@@ -67,8 +68,8 @@ abbrev pub playedForm : Sheet → List ℕ → List ℕ → Form → Result
 playedForm h s m (records ts) = played h 0 s m ts
 playedForm h s m (fault f place) = result f place s m []
 
--- "Refusals: document 01's sheet, state, memory and Disabled refusals first"; then 35, a refusal of our own, for a trace over 2^30 - 1 octets, whose
--- places would not fit an answer; then those of the form
+-- "Refusals: document 01's sheet, state, memory and Disabled refusals first"; then 35, a refusal of our own, for a trace over 2^30 - 1 octets: up
+-- to there every place fits an answer; then those of the form
 unfoldable pub replay : Sheet → List ℕ → List ℕ → List ℕ → Form → Result
 replay h s m trace form =
     when (not (validState h s)) (result 1 0 s m [])

@@ -1,5 +1,5 @@
 -- Words for tables of octets.
-use Prim.Native.Nat.{ℕ, zero, suc, _+_, _-_, _*_, _/_, _%_}
+use Prim.Native.Nat.{ℕ, zero, suc, _+_, _-_, _*_, _/_, _%_, _^_}
 use mathlib.Core.Bool.{Bool, true, false, not, _&&_, _||_}
 use mathlib.Core.List.{List, [], _∷_, _++_}
 use mathlib.Core.Logic.{_⊎_}
@@ -45,10 +45,11 @@ abbrev pub InARow : {A : Type 0} → (A → A → Type 0) → List A → Type 0
 InARow R [] = Unit {0}
 InARow R (x ∷ xs) = From R x xs
 
--- a check by its number f: it fails, and f is its number; or it holds, and f is that of a later one
+-- f is the number of the first check that fails: this one fails, and f is its number; or it holds, and f is a later one's
 abbrev pub Check : ℕ → Type 0 → (ℕ → Type 0) → ℕ → Type 0
 Check number Holds later f = ((Holds → ⊥) × (f ≡ number)) ⊎ (Holds × later f)
 
+-- no check is left, and so none fails
 abbrev pub NoMore : ℕ → Type 0
 NoMore f = ⊥
 
@@ -71,12 +72,12 @@ abbrev pub number : List ℕ → ℕ → ℕ → ℕ
 number c from zero = 0
 number c from (suc k) = getD c from 0 + 256 * number c (suc from) k
 
--- one octet, and whether the bit of a weight is set in it
+-- one octet, and whether bit k is set in a number
 abbrev pub octet : List ℕ → ℕ → ℕ
 octet c i = getD c i 0
 
 abbrev pub bit : ℕ → ℕ → Bool
-bit x weight = eqb (x / weight % 2) 1
+bit x k = eqb (x / (2 ^ k) % 2) 1
 
 -- octets that stand from a number on: of the reply, of the state record, or of the address space
 pub record Piece : Type 0 where
