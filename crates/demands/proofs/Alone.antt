@@ -4,9 +4,7 @@ use mathlib.Core.Path.{_≡_, refl, sym, ap, ap₂, _∙_}
 use mathlib.Core.List.{List, [], _∷_, map}
 use Prim.Native.Nat.{ℕ}
 use lib.ListN.{getD, set}
-use Rattle.sheet.specs.Walk.{verdictOf}
-use Rattle.sheet.specs.declared.walk.Layout.{Layout}
-use Rattle.sheet.specs.declared.walk.Verdict.the-variants.{Valid}
+use Rattle.law.specs.Sheet.{Sheet, WellFormed, sheetOctets}
 use Rattle.slave.specs.Exchange.{Left, exchangeOf}
 use Rattle.demands.specs.Hidden.{DifferOnlyHidden, Seen, seen}
 use Rattle.demands.specs.Idle.{KeepsSecrets, AgreesWhereReached, refusesAll, singleReply, storesNothing, echoes, echoesAfterwards, inventing, inventsRsn}
@@ -61,43 +59,43 @@ stores-last sheet state memory [] = refl
 stores-last sheet state memory (c ∷ cs) = stores-last sheet (callOf sheet state memory c .state) memory cs
 
 pub refuses-all-keeps-secrets : KeepsSecrets refusesAll
-refuses-all-keeps-secrets sheet lay v state m₁ m₂ d calls =
-    (refuses-seen sheet state m₁ m₂ calls, still-agree _ _ m₁ m₂ (refuses-last sheet state m₁ calls) (refuses-last sheet state m₂ calls))
+refuses-all-keeps-secrets h w state m₁ m₂ d calls =
+    (refuses-seen (sheetOctets h) state m₁ m₂ calls, still-agree _ _ m₁ m₂ (refuses-last (sheetOctets h) state m₁ calls) (refuses-last (sheetOctets h) state m₂ calls))
 
 pub single-reply-keeps-secrets : KeepsSecrets singleReply
-single-reply-keeps-secrets sheet lay v state m₁ m₂ d calls =
-    (single-seen sheet state m₁ m₂ calls, still-agree _ _ m₁ m₂ (single-last sheet state m₁ calls) (single-last sheet state m₂ calls))
+single-reply-keeps-secrets h w state m₁ m₂ d calls =
+    (single-seen (sheetOctets h) state m₁ m₂ calls, still-agree _ _ m₁ m₂ (single-last (sheetOctets h) state m₁ calls) (single-last (sheetOctets h) state m₂ calls))
 
 -- a program that answers as the machine does shows what the machine shows
-stores-seen : (sheet : List ℕ) (lay : Layout) → verdictOf sheet ≡ Valid lay → (m₁ m₂ : List ℕ) → DifferOnlyHidden sheet lay m₁ m₂ → (calls : List Call)
-    (state : List ℕ) → map seen (storesNothing sheet state m₁ calls) ≡ map seen (storesNothing sheet state m₂ calls)
+stores-seen : (h : Sheet) → WellFormed h → (m₁ m₂ : List ℕ) → DifferOnlyHidden h m₁ m₂ → (calls : List Call)
+    (state : List ℕ) → map seen (storesNothing (sheetOctets h) state m₁ calls) ≡ map seen (storesNothing (sheetOctets h) state m₂ calls)
 unfolding storesNothing
-stores-seen sheet lay v m₁ m₂ d [] state = refl
-stores-seen sheet lay v m₁ m₂ d (c ∷ cs) state =
-    let k = call-kept sheet lay v (λ i. getD m₁ i 0 ≡ getD m₂ i 0) (d .shown) state m₁ m₂ (d .whole₁) (d .whole₂) (λ i e. e) c .same in
+stores-seen h w m₁ m₂ d [] state = refl
+stores-seen h w m₁ m₂ d (c ∷ cs) state =
+    let k = call-kept h w (λ i. getD m₁ i 0 ≡ getD m₂ i 0) (d .shown) state m₁ m₂ (d .whole₁) (d .whole₂) (λ i e. e) c .same in
     ap₂ (λ (x : Seen) (xs : List Seen). x ∷ xs) k
-    (stores-seen sheet lay v m₁ m₂ d cs (callOf sheet state m₁ c .state)
-    ∙ ap (λ (s : List ℕ). map seen (storesNothing sheet s m₂ cs)) (ap (λ (x : Seen). x .state) k))
+    (stores-seen h w m₁ m₂ d cs (callOf (sheetOctets h) state m₁ c .state)
+    ∙ ap (λ (s : List ℕ). map seen (storesNothing (sheetOctets h) s m₂ cs)) (ap (λ (x : Seen). x .state) k))
 
 pub stores-nothing-keeps-secrets : KeepsSecrets storesNothing
-stores-nothing-keeps-secrets sheet lay v state m₁ m₂ d calls =
-    (stores-seen sheet lay v m₁ m₂ d calls state, still-agree _ _ m₁ m₂ (stores-last sheet state m₁ calls) (stores-last sheet state m₂ calls))
+stores-nothing-keeps-secrets h w state m₁ m₂ d calls =
+    (stores-seen h w m₁ m₂ d calls state, still-agree _ _ m₁ m₂ (stores-last (sheetOctets h) state m₁ calls) (stores-last (sheetOctets h) state m₂ calls))
 
 pub echoes-afterwards-keeps-secrets : KeepsSecrets echoesAfterwards
 unfolding callOf echoesAfterwards lastMemory
-echoes-afterwards-keeps-secrets sheet lay v state m₁ m₂ d [] = (refl, λ i e. e)
-echoes-afterwards-keeps-secrets sheet lay v state m₁ m₂ d (Reset ∷ cs) =
-    let k = echoes-afterwards-keeps-secrets sheet lay v (callOf sheet state m₁ Reset .state) m₁ m₂ d cs in (behind (k .0), k .1)
-echoes-afterwards-keeps-secrets sheet lay v state m₁ m₂ d (Enable ∷ cs) =
-    let k = echoes-afterwards-keeps-secrets sheet lay v (callOf sheet state m₁ Enable .state) m₁ m₂ d cs in (behind (k .0), k .1)
-echoes-afterwards-keeps-secrets sheet lay v state m₁ m₂ d (Exchange command reply ∷ cs) =
-    let k = call-kept sheet lay v (λ i. getD m₁ i 0 ≡ getD m₂ i 0) (d .shown) state m₁ m₂ (d .whole₁) (d .whole₂) (λ i e. e) (Exchange command reply) in
-    let l₁ = exchangeOf sheet state m₁ command reply in
-    let l₂ = exchangeOf sheet state m₂ command reply in (
+echoes-afterwards-keeps-secrets h w state m₁ m₂ d [] = (refl, λ i e. e)
+echoes-afterwards-keeps-secrets h w state m₁ m₂ d (Reset ∷ cs) =
+    let k = echoes-afterwards-keeps-secrets h w (callOf (sheetOctets h) state m₁ Reset .state) m₁ m₂ d cs in (behind (k .0), k .1)
+echoes-afterwards-keeps-secrets h w state m₁ m₂ d (Enable ∷ cs) =
+    let k = echoes-afterwards-keeps-secrets h w (callOf (sheetOctets h) state m₁ Enable .state) m₁ m₂ d cs in (behind (k .0), k .1)
+echoes-afterwards-keeps-secrets h w state m₁ m₂ d (Exchange command reply ∷ cs) =
+    let k = call-kept h w (λ i. getD m₁ i 0 ≡ getD m₂ i 0) (d .shown) state m₁ m₂ (d .whole₁) (d .whole₂) (λ i e. e) (Exchange command reply) in
+    let l₁ = exchangeOf (sheetOctets h) state m₁ command reply in
+    let l₂ = exchangeOf (sheetOctets h) state m₂ command reply in (
       ap₂ (λ (x : Seen) (xs : List Seen). x ∷ xs) (k .same)
-          (echoes-seen sheet (l₁ .state) (l₁ .memory) (l₂ .memory) cs
+          (echoes-seen (sheetOctets h) (l₁ .state) (l₁ .memory) (l₂ .memory) cs
           ∙ ap (λ (s : List ℕ). map seen (echoes s (l₂ .memory) cs)) (ap (λ (x : Seen). x .state) (k .same))),
-      λ i e. still-agree _ _ (l₁ .memory) (l₂ .memory) (echoes-last sheet (l₁ .state) (l₁ .memory) cs) (echoes-last sheet (l₂ .state) (l₂ .memory) cs) i (k .agree i (inl e)),
+      λ i e. still-agree _ _ (l₁ .memory) (l₂ .memory) (echoes-last (sheetOctets h) (l₁ .state) (l₁ .memory) cs) (echoes-last (sheetOctets h) (l₂ .state) (l₂ .memory) cs) i (k .agree i (inl e)),
     )
 
 -- a change of what is seen alone
@@ -115,14 +113,14 @@ invents-last memory (l ∷ ls) = invents-last (l .memory) ls
 
 pub invents-rsn-keeps-secrets : KeepsSecrets inventsRsn
 unfolding inventsRsn
-invents-rsn-keeps-secrets sheet lay v state m₁ m₂ d calls =
-    let k = demand-3 sheet lay v state m₁ m₂ d calls in (
-      invents-seen (runOf sheet state m₁ calls) ∙ ap (map inventedSeen) (k .0) ∙ sym (invents-seen (runOf sheet state m₂ calls)),
-      λ i e. still-agree _ _ _ _ (invents-last m₁ (runOf sheet state m₁ calls)) (invents-last m₂ (runOf sheet state m₂ calls)) i (k .1 i e),
+invents-rsn-keeps-secrets h w state m₁ m₂ d calls =
+    let k = demand-3 h w state m₁ m₂ d calls in (
+      invents-seen (runOf (sheetOctets h) state m₁ calls) ∙ ap (map inventedSeen) (k .0) ∙ sym (invents-seen (runOf (sheetOctets h) state m₂ calls)),
+      λ i e. still-agree _ _ _ _ (invents-last m₁ (runOf (sheetOctets h) state m₁ calls)) (invents-last m₂ (runOf (sheetOctets h) state m₂ calls)) i (k .1 i e),
     )
 
 pub invents-rsn-agrees-where-reached : AgreesWhereReached inventsRsn
 unfolding inventsRsn
-invents-rsn-agrees-where-reached sheet lay v state m₁ m₂ d calls i r =
-    still-agree _ _ _ _ (invents-last m₁ (runOf sheet state m₁ calls)) (invents-last m₂ (runOf sheet state m₂ calls)) i
-    (demand-3 sheet lay v state m₁ m₂ d calls .2 i r)
+invents-rsn-agrees-where-reached h w state m₁ m₂ d calls i r =
+    still-agree _ _ _ _ (invents-last m₁ (runOf (sheetOctets h) state m₁ calls)) (invents-last m₂ (runOf (sheetOctets h) state m₂ calls)) i
+    (demand-3 h w state m₁ m₂ d calls .2 i r)

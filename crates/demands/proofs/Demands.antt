@@ -1,15 +1,16 @@
 -- The owner's page, proved.
+use Rattle.law.proofs.ByTables.{by-tables, one-reading}
 use Rattle.demands.specs.Demands.{FirstDemand, SecondDemand, ThirdDemand, IdlePrograms, OnTheBench, Request6}
 use Rattle.demands.proofs.Agreed.{traces-have-replies, agrees-exactly}
 use Rattle.demands.proofs.Alone.{refuses-all-keeps-secrets, single-reply-keeps-secrets, stores-nothing-keeps-secrets, echoes-afterwards-keeps-secrets, invents-rsn-keeps-secrets, invents-rsn-agrees-where-reached}
 use Rattle.demands.proofs.Bench.{sheet-p-is-valid, bench-cases}
-use Rattle.demands.proofs.Bodies.{body-in-the-reply}
 use Rattle.demands.proofs.Cut.{cut-in-two}
 use Rattle.demands.proofs.CutWhole.{forms-join, replay-cut-in-two}
 use Rattle.demands.proofs.Exact.{acceptance-is-exact, rights-over-whole-span}
 use Rattle.demands.proofs.Folded.{replay-is-fold}
 use Rattle.demands.proofs.Histories.{history-is-run}
 use Rattle.demands.proofs.Lengths.{memory-keeps-its-length}
+use Rattle.demands.proofs.LawBench.{bench-by-law}
 use Rattle.demands.proofs.OnTheWire.{refused-on-the-wire}
 use Rattle.demands.proofs.Owned.{writes-own-octets}
 use Rattle.demands.proofs.Refusals.{refused-changes-nothing, states-stay-valid}
@@ -28,9 +29,10 @@ first-demand = record {
 
 pub second-demand : SecondDemand
 second-demand = record {
+  by-tables = by-tables;
+  one-reading = one-reading;
   acceptance-is-exact = acceptance-is-exact;
   rights-over-the-whole-span = rights-over-whole-span;
-  body-in-the-reply = body-in-the-reply;
   over-every-sequence = λ sheet state memory calls ls h. history-is-run sheet h;
   a-write-stores-its-own-octets = writes-own-octets;
   the-memory-keeps-its-length = memory-keeps-its-length;
@@ -50,7 +52,7 @@ idle-programs = record {
 }
 
 pub on-the-bench : OnTheBench
-on-the-bench = record { sheet-p = sheet-p-is-valid; cases = bench-cases }
+on-the-bench = record { sheet-p = sheet-p-is-valid; cases = bench-cases; cases-by-the-law = bench-by-law }
 
 pub request-6 : Request6
 request-6 = record {

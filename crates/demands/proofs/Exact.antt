@@ -1,45 +1,89 @@
--- Acceptance is exact, as a host sees it.
-use mathlib.Core.Path.{_≡_, sym, ap, _∙_}
+-- Acceptance is exact: what the law accepts is what a host sees executed.
+use mathlib.Core.Bool.{Bool, true, false, not, and-eq-true-iff, _&&_}
+use mathlib.Core.Logic.{⊎-elim}
+use mathlib.Core.Path.{_≡_, refl, sym, ap, ap₂, subst, _∙_}
 use mathlib.Core.List.{List}
-use Prim.Native.Nat.{ℕ, _%_}
+use Prim.Native.Nat.{ℕ, zero, suc, _+_, _≤_, _<_}
 use native.Mathlib.Omega.{arith}
-use borrow.Author.Tests.{eqb-true, eq-eqb}
-use Rattle.frame.specs.Fields.{commandOf}
-use Rattle.link.specs.declared.state.LinkState.{LinkState}
-use Rattle.machine.specs.declared.words.Outcome.{Outcome}
-use Rattle.regions.proofs.Spans.{all-before, before-all}
-use Rattle.sheet.specs.declared.walk.Layout.{Layout}
-use Rattle.slave.specs.Exchange.{exchangeOf}
-use Rattle.demands.specs.Accepted.{Executed, AcceptanceIsExact, RightsOverWholeSpan}
-use Rattle.demands.specs.Answered.{Answered}
-use Rattle.demands.proofs.Answered.{seen-alarm, seen-link}
-use Rattle.demands.proofs.Machine.{Performed, performed-stays, fails-in-three, machine-exact, comes-to}
+use borrow.Author.Tests.{eqb-true, eq-eqb, not-true}
+use lib.Dec.{eqb}
+use lib.ListN.{length}
+use Rattle.octets.proofs.Cases.{decided, lt-or-le}
+use Rattle.law.specs.Words.{octet, when, laid}
+use Rattle.law.specs.Sheet.{Sheet}
+use Rattle.law.specs.State.{link}
+use Rattle.law.specs.Memory.{Cell, has, hasAll}
+use Rattle.law.specs.Table.{table}
+use Rattle.law.specs.Exchange.{Fate, missed, judged, lost, fateOf}
+use Rattle.law.proofs.Clauses.{valid-true}
+use Rattle.slave.specs.Exchange.{Left, exchangeOf}
+use Rattle.demands.specs.Accepted.{accepted, Executed, AcceptanceIsExact, RightsOverWholeSpan}
+use Rattle.demands.specs.Answered.{Answered, alarmIn}
+use Rattle.demands.proofs.Done.{least-length, answered-done, seen-alarm, seen-link}
+use Rattle.demands.proofs.Fates.{fate-missed, fate-kept, row-stays}
 
-pub rights-over-whole-span : RightsOverWholeSpan
-rights-over-whole-span rs w a n =
-    (λ h. all-before rs w a n (eqb-true _ n h), λ all. eq-eqb _ n (before-all rs w a n all))
+module _ (h : Sheet) (sheet s m c r : List ℕ) (a : Answered h sheet s m c r) where
+  abbrev x : Left
+  x = exchangeOf sheet s m c r
 
-module _ (sheet state memory command reply : List ℕ) (lay : Layout) (st : LinkState) (q : Answered sheet state memory command reply lay st) where
-  shows : Performed sheet lay st (commandOf command) → Executed st (exchangeOf sheet state memory command reply)
-  shows x = record {
-    no-alarm = seen-alarm sheet state memory command reply lay st q ∙ ap (λ (o : Outcome). o .alarm % 16) (x .3);
-    not-lost = λ three two.
-        performed-stays sheet lay st (commandOf command) x three (sym (seen-link sheet state memory command reply lay st q) ∙ two);
-  }
+  abbrev row : Fate
+  row = judged s (octet c 0) (table h s m c)
 
-  performs : Executed st (exchangeOf sheet state memory command reply) → Performed sheet lay st (commandOf command)
-  performs x =
-      comes-to sheet lay st (commandOf command) (Performed sheet lay st (commandOf command))
-      (λ e o.
-      absurd (x .not-lost (fails-in-three sheet lay st (commandOf command) e)
-      (seen-link sheet state memory command reply lay st q ∙ ap (λ (y : Outcome). y .next .link) o)))
-      (λ e alarm a o.
-      let none : alarm % 16 ≡ 0 = sym (seen-alarm sheet state memory command reply lay st q ∙ ap (λ (y : Outcome). y .alarm % 16) o) ∙ x .no-alarm in
-      absurd (let k : ⊥ = omega (arith, a .0, a .1) in k))
-      (λ p. p)
+  long : 8 ≤ h .l
+  long = least-length (h .l) (a .good .l)
+
+  ten : 2 ≤ length s
+  ten = let e = valid-true h s (a .valid) .0 in omega arith
+
+  -- the alarm and the link that a host sees
+  alarm-is : (f : Fate) → fateOf h s m c ≡ f → alarmIn (x .reply) ≡ f .alarm
+  alarm-is f e = ap (λ (l : Left). alarmIn (l .reply)) (answered-done h sheet s m c r a) ∙ seen-alarm h s m c long ∙ ap (λ (g : Fate). g .alarm) e
+
+  link-is : (f : Fate) → fateOf h s m c ≡ f → link (x .state) ≡ laid (f .state) 1 (link s)
+  link-is f e =
+      ap (λ (l : Left). link (l .state)) (answered-done h sheet s m c r a) ∙ seen-link h s m c long ten ∙ ap (λ (g : Fate). laid (g .state) 1 (link s)) e
+
+  to : accepted h s m c ≡ true → Executed s x
+  to e =
+      let p = and-eq-true-iff (not (missed s c)) (eqb (row .alarm) 0) .0 e in
+      let k = fate-kept h s m c (not-true (missed s c) (p .0)) in
+      record {
+        no-alarm = alarm-is row k ∙ eqb-true (row .alarm) 0 (p .1);
+        not-lost = λ three two. row-stays h s m c three (sym (link-is row k) ∙ two);
+      }
+
+  lost-link : (n : ℕ) → laid (lost .state) 1 n ≡ 2
+  unfolding laid when
+  lost-link n = refl
+
+  from : Executed s x → accepted h s m c ≡ true
+  from e =
+      ⊎-elim
+      (λ (t : missed s c ≡ true).
+      let three = eqb-true (link s) 3 (and-eq-true-iff (eqb (link s) 3) _ .0 t .0) in
+      absurd (e .not-lost three (link-is lost (fate-missed h s m c t) ∙ lost-link (link s))))
+      (λ (t : missed s c ≡ false).
+      ap₂ _&&_ (ap not t) (eq-eqb (row .alarm) 0 (sym (alarm-is row (fate-kept h s m c t)) ∙ e .no-alarm)))
+      (decided (missed s c))
 
 pub acceptance-is-exact : AcceptanceIsExact
-acceptance-is-exact sheet state memory command reply lay st q = (
-  λ e. shows sheet state memory command reply lay st q (machine-exact sheet lay st (commandOf command) .0 e),
-  λ x. machine-exact sheet lay st (commandOf command) .1 (performs sheet state memory command reply lay st q x),
-)
+acceptance-is-exact h sheet s m c r a = (to h sheet s m c r a, from h sheet s m c r a)
+
+every : (asked : ℕ → Bool) (cs : List Cell) (a n : ℕ) → hasAll asked cs a n ≡ true → (x : ℕ) → a ≤ x → x < a + n → has asked cs x ≡ true
+unfolding hasAll
+every asked cs a zero e x l u = absurd (let k : ⊥ = omega arith in k)
+every asked cs a (suc n) e x l u =
+    let p = and-eq-true-iff (has asked cs a) (hasAll asked cs (suc a) n) .0 e in
+    ⊎-elim
+    (λ (k : a < x). every asked cs (suc a) n (p .1) x (omega arith) (omega arith))
+    (λ (k : x ≤ a). subst (λ (i : ℕ). has asked cs i ≡ true) (let q : a ≡ x = omega arith in q) (p .0))
+    (lt-or-le a x)
+
+all-of : (asked : ℕ → Bool) (cs : List Cell) (a n : ℕ) → ((x : ℕ) → a ≤ x → x < a + n → has asked cs x ≡ true) → hasAll asked cs a n ≡ true
+unfolding hasAll
+all-of asked cs a zero all = refl
+all-of asked cs a (suc n) all =
+    ap₂ _&&_ (all a (omega arith) (omega arith)) (all-of asked cs (suc a) n (λ x l u. all x (omega arith) (omega arith)))
+
+pub rights-over-whole-span : RightsOverWholeSpan
+rights-over-whole-span asked cs a n = (every asked cs a n, all-of asked cs a n)

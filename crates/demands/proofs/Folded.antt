@@ -9,7 +9,8 @@ use Rattle.replay.specs.Replay.{Replayed}
 use Rattle.replay.specs.Trace.{Traced}
 use Rattle.demands.specs.Replays.{callsOf, ours, Folded, ReplayIsFold}
 use Rattle.demands.specs.Sequences.{callOf, runOf, lastState, lastMemory}
-use Rattle.demands.proofs.Replays.{differs-before, differs-there, reply-keeps, Played, ended, differed, agreed, played}
+use Rattle.demands.proofs.Lengths.{reply-keeps}
+use Rattle.demands.proofs.Replays.{differs-before, differs-there, Played, ended, differed, agreed, played}
 
 -- a place that is told comes apart into the record's number and the octet
 told-number : (k d : ℕ) → d < 64 → (64 * k + d) / 64 ≡ k + 0

@@ -1,94 +1,96 @@
--- A command refused on the wire builds a whole reply, updates the state and stores nothing.
-use mathlib.Core.Bool.{true, false, true≢false}
+-- What a command that is refused on the wire leaves.
+use mathlib.Core.Bool.{Bool, true, false, not, _&&_}
 use mathlib.Core.Logic.{⊎-elim}
-use mathlib.Core.Path.{_≡_, sym, ap, _∙_}
-use mathlib.Core.List.{List}
-use Prim.Native.Nat.{ℕ, _+_, _-_, _%_, _≤_, _<_}
+use mathlib.Core.Path.{_≡_, refl, sym, ap, ap₂, _∙_}
+use mathlib.Core.List.{List, []}
+use Prim.Native.Nat.{ℕ, _≤_}
 use native.Mathlib.Omega.{arith}
-use lib.ListN.{getD, drop, replicate, length-replicate, getD-replicate, List·getD-eq-default}
-use lib.Seq.{getD-drop}
-use Rattle.octets.proofs.Cases.{lt-or-le}
-use Rattle.octets.proofs.Pick.{pick-no}
-use Rattle.frame.specs.Body.{bodyOf}
-use Rattle.frame.specs.Fields.{commandOf}
-use Rattle.link.specs.Steps.{latched}
-use Rattle.link.specs.Stored.{octetsOf}
-use Rattle.link.specs.declared.state.LinkState.{LinkState}
-use Rattle.machine.specs.Outcomes.{mnOf, counting, outcomeOf}
-use Rattle.machine.specs.declared.words.Effect.{Effect}
-use Rattle.machine.specs.declared.words.Effect.the-variants.{Quiet}
-use Rattle.machine.specs.declared.words.Outcome.{Outcome}
-use Rattle.sheet.specs.declared.walk.Layout.{Layout}
-use Rattle.slave.specs.Exchange.{Left, exchangeOf}
-use Rattle.demands.specs.Accepted.{acceptedOf}
+use borrow.Author.Tests.{eq-eqb}
+use lib.ListN.{length, getD}
+use Rattle.octets.proofs.Cases.{decided}
+use Rattle.law.specs.Words.{octet, Piece}
+use Rattle.law.specs.Sheet.{Sheet}
+use Rattle.law.specs.Memory.{cells, stored}
+use Rattle.law.specs.Table.{table}
+use Rattle.law.specs.Exchange.{Fate, mn, missed, lost, refused, judged, fateOf, stateAfter}
+use Rattle.law.proofs.Held.{length-cells}
+use Rattle.law.proofs.Laid.{stored-none}
+use Rattle.slave.specs.Answers.{told}
+use Rattle.slave.specs.Exchange.{Left, left, exchangeOf}
+use Rattle.demands.specs.Accepted.{accepted}
 use Rattle.demands.specs.Answered.{Answered, alarmIn}
-use Rattle.demands.specs.OnTheWire.{watchdogFails, LosesCycle, LatchesAlarm, RefusedByReply, RefusedOnTheWire}
-use Rattle.demands.proofs.Answered.{leaves, seen-alarm, seen-code, seen-whole, seen-behind}
-use Rattle.demands.proofs.Machine.{machine-exact, comes-to}
-use Rattle.demands.proofs.Memories.{exchange-memory}
+use Rattle.demands.specs.OnTheWire.{RefusedByReply, RefusedOnTheWire}
+use Rattle.demands.proofs.Done.{least-length, lawful, answered-done, seen-whole, seen-code, seen-alarm, seen-zero}
+use Rattle.demands.proofs.Fates.{fate-missed, fate-kept, row-refused}
 
-zero-at : (n k : ℕ) → getD (replicate {A = ℕ} n 0) k 0 ≡ 0
-zero-at n k =
-    ⊎-elim
-    (λ (h : k < n). getD-replicate n k 0 0 h)
-    (λ (h : n ≤ k). let e = length-replicate {A = ℕ} n 0 in List·getD-eq-default (replicate n 0) 0 {n = k} (omega arith))
-    (lt-or-le k n)
+true-not-false : {A : Type 0} → _≡_ {A = Bool} true false → A
+true-not-false e = absurd (let z : _≡_ {A = ℕ} 0 1 = cc in let v : ⊥ = omega arith in v)
 
--- octets that are zeros behind the fourth
-zero-behind : (r : List ℕ) (n : ℕ) → drop 4 r ≡ drop 4 (replicate n 0) → (k : ℕ) → 4 ≤ k → getD r k 0 ≡ 0
-zero-behind r n e k h =
-    let back : 4 + (k - 4) ≡ k = omega arith in
-    ap (λ (i : ℕ). getD r i 0) (sym back) ∙ sym (getD-drop 4 r (k - 4) 0)
-    ∙ ap (λ (x : List ℕ). getD x (k - 4) 0) e
-    ∙ getD-drop 4 (replicate n 0) (k - 4) 0 ∙ zero-at n (4 + (k - 4))
+module _ (h : Sheet) (sheet s m c r : List ℕ) (a : Answered h sheet s m c r) where
+  abbrev x : Left
+  x = exchangeOf sheet s m c r
 
-module _ (sheet state memory command reply : List ℕ) (lay : Layout) (st : LinkState) (q : Answered sheet state memory command reply lay st)
-    (none : acceptedOf sheet lay st (commandOf command) ≡ false) where
-  abbrev l : Left
-  l = exchangeOf sheet state memory command reply
+  is : x ≡ left (told 0 0) (lawful h s m c .state) (lawful h s m c .memory) (lawful h s m c .reply)
+  is = answered-done h sheet s m c r a
 
-  -- without an effect the body is zero
-  quiet-body : outcomeOf sheet lay st (commandOf command) .effect ≡ Quiet → (k : ℕ) → 4 ≤ k → getD (l .reply) k 0 ≡ 0
-  unfolding bodyOf
-  quiet-body e =
-      zero-behind (l .reply) (lay .l)
-      (seen-behind sheet state memory command reply lay st q
-      ∙ ap (λ (x : Effect). drop 4 (bodyOf x sheet memory command (replicate (lay .l) 0))) e)
+  long : 8 ≤ h .l
+  long = least-length (h .l) (a .good .l)
 
-  -- what every refused command has, whichever check refused it
-  with-state : outcomeOf sheet lay st (commandOf command) .effect ≡ Quiet
-      → (watchdogFails st (commandOf command) ≡ true → LosesCycle st l)
-      → (watchdogFails st (commandOf command) ≡ false → LatchesAlarm st (mnOf (commandOf command)) l)
-      → RefusedByReply lay st memory command l
-  with-state e w a = record {
-    reply-built = ap (λ (x : Left). x .answer) (leaves sheet state memory command reply lay st q);
-    nothing-stored = exchange-memory sheet state memory command reply lay st q ∙ pick-no _ _ none;
-    whole = seen-whole sheet state memory command reply lay st q;
-    code-again = seen-code sheet state memory command reply lay st q;
-    zero-body = quiet-body e;
-    by-watchdog = w;
-    by-alarm = a;
+  alarm-is : alarmIn (x .reply) ≡ fateOf h s m c .alarm
+  alarm-is = ap (λ (l : Left). alarmIn (l .reply)) is ∙ seen-alarm h s m c long
+
+  -- a fate without body and stored octets, and what it does to the state
+  by-fate : (f : Fate) → fateOf h s m c ≡ f → f .body ≡ [] → f .memory ≡ []
+      → (missed s c ≡ true → (alarmIn (x .reply) ≡ 0) × (x .state ≡ stateAfter s (mn c) (lost .state)))
+      → (missed s c ≡ false → (alarmIn (x .reply) ≡ 0 → ⊥) × (x .state ≡ stateAfter s (mn c) (refused s (alarmIn (x .reply)) .state)))
+      → RefusedByReply h s m c x
+  by-fate f e body memory watchdog alarm = record {
+    reply-built = ap (λ (l : Left). l .answer) is;
+    nothing-stored = ap (λ (l : Left). l .memory) is ∙ ap (λ (ps : List Piece). stored ps (cells (h .regions)) m) (ap (λ (g : Fate). g .memory) e ∙ memory)
+        ∙ stored-none (cells (h .regions)) m (a .whole ∙ sym (length-cells (h .regions)));
+    whole = ap (λ (l : Left). length (l .reply)) is ∙ seen-whole h s m c long;
+    code-again = ap (λ (l : Left). getD (l .reply) 0 0) is ∙ seen-code h s m c long;
+    zero-body = λ k l. ap (λ (y : Left). getD (y .reply) k 0) is ∙ seen-zero h s m c long (ap (λ (g : Fate). g .body) e ∙ body) k l;
+    by-watchdog = watchdog;
+    by-alarm = alarm;
   }
 
-  state-is : (x : Outcome) → outcomeOf sheet lay st (commandOf command) ≡ x → l .state ≡ octetsOf (x .next)
-  state-is x e = ap (λ (y : Left). y .state) (leaves sheet state memory command reply lay st q) ∙ ap (λ (y : Outcome). octetsOf (y .next)) e
+  state-is : (f : Fate) → fateOf h s m c ≡ f → x .state ≡ stateAfter s (mn c) (f .state)
+  state-is f e = ap (λ (l : Left). l .state) is ∙ ap (λ (g : Fate). stateAfter s (mn c) (g .state)) e
 
-  alarm-is : (x : Outcome) → outcomeOf sheet lay st (commandOf command) ≡ x → alarmIn (l .reply) ≡ x .alarm % 16
-  alarm-is x e = seen-alarm sheet state memory command reply lay st q ∙ ap (λ (y : Outcome). y .alarm % 16) e
+  row-alarm : missed s c ≡ false → accepted h s m c ≡ false → judged s (octet c 0) (table h s m c) .alarm ≡ 0 → ⊥
+  row-alarm t f z =
+      true-not-false (sym (ap₂ _&&_ (ap not t) (eq-eqb (judged s (octet c 0) (table h s m c) .alarm) 0 z)) ∙ f)
 
-  refused : RefusedByReply lay st memory command l
-  refused =
-      comes-to sheet lay st (commandOf command) (RefusedByReply lay st memory command l)
-      (λ w e.
-      with-state (ap (λ (x : Outcome). x .effect) e) (λ u. (alarm-is _ e, state-is _ e)) (λ u. absurd (true≢false (sym w ∙ u))))
-      (λ w alarm a e.
-      let told : alarmIn (l .reply) ≡ alarm = alarm-is _ e ∙ omega (arith, a .1) in
-      with-state (ap (λ (x : Outcome). x .effect) e) (λ u. absurd (true≢false (sym u ∙ w)))
+  refused-body : (n : ℕ) → refused s n .body ≡ []
+  unfolding refused
+  refused-body n = refl
+
+  refused-memory : (n : ℕ) → refused s n .memory ≡ []
+  unfolding refused
+  refused-memory n = refl
+
+  by-row : missed s c ≡ false → accepted h s m c ≡ false → RefusedByReply h s m c x
+  by-row t f =
+      let row = judged s (octet c 0) (table h s m c) in
+      let k = fate-kept h s m c t in
+      let q = row-refused h s m c (row-alarm t f) in
+      let e : fateOf h s m c ≡ refused s (row .alarm) = k ∙ q .1 in
+      let seen : alarmIn (x .reply) ≡ row .alarm = alarm-is ∙ ap (λ (g : Fate). g .alarm) k in
+      by-fate (refused s (row .alarm)) e (refused-body (row .alarm)) (refused-memory (row .alarm))
+      (λ u. true-not-false (sym u ∙ t))
       (λ u. (
-        λ z. let k : ⊥ = omega (arith, a .0) in k,
-        state-is _ e ∙ ap (λ (i : ℕ). octetsOf (counting st (latched st i) (mnOf (commandOf command)))) (sym told),
-      )))
-      (λ p. absurd (true≢false (sym (machine-exact sheet lay st (commandOf command) .1 p) ∙ none)))
+        λ z. row-alarm t f (sym seen ∙ z),
+        state-is (refused s (row .alarm)) e ∙ ap (λ (n : ℕ). stateAfter s (mn c) (refused s n .state)) (sym seen),
+      ))
 
 pub refused-on-the-wire : RefusedOnTheWire
-refused-on-the-wire sheet state memory command reply lay st q none = refused sheet state memory command reply lay st q none
+refused-on-the-wire h sheet s m c r a f =
+    ⊎-elim
+    (λ (t : missed s c ≡ true).
+    let e = fate-missed h s m c t in
+    by-fate h sheet s m c r a lost e refl refl
+    (λ u. (alarm-is h sheet s m c r a ∙ ap (λ (g : Fate). g .alarm) e, state-is h sheet s m c r a lost e))
+    (λ u. true-not-false (sym t ∙ u)))
+    (λ (t : missed s c ≡ false). by-row h sheet s m c r a t f)
+    (decided (missed s c))

@@ -19,19 +19,19 @@ use Rattle.machine.specs.Outcomes.{outcomeOf}
 use Rattle.sheet.specs.Walk.{verdictOf}
 use Rattle.sheet.specs.declared.walk.Layout.{Layout}
 use Rattle.slave.specs.Answers.{told, onState}
-use Rattle.slave.specs.Exchange.{Left, refusalOf, exchanged, exchangeOf}
+use Rattle.slave.specs.Exchange.{Left, exchanged, exchangeOf}
 use Rattle.slave.proofs.Order.{on-valid, on-state}
 use Rattle.replay.specs.Replay.{Replayed, replayed, replayOf}
 use Rattle.replay.specs.Trace.{Traced, recordSize, recordsOf}
 use Rattle.replay.specs.declared.told.Told.{Told}
 use Rattle.replay.proofs.Forms.{checked-short}
-use Rattle.demands.specs.Answered.{Answered}
+use Rattle.replay.proofs.Steps.{is-exchanged}
+use Rattle.law.proofs.Complete.{complete}
 use Rattle.demands.specs.Replays.{callsOf, Alike, Playable, ReplayPlays, EachAnswered, RecordsAreAnswered, SecretsInWholeReplay, RefusedReplayWritesNothing}
 use Rattle.demands.specs.Sequences.{callOf, runOf}
 use Rattle.demands.proofs.Agreed.{traces-have-replies}
 use Rattle.demands.proofs.Lengths.{memory-keeps-its-length}
 use Rattle.octets.proofs.Overlaid.{part-length}
-use Rattle.demands.proofs.Memories.{answered-is}
 use Rattle.demands.proofs.Reached.{secrets-in-replay}
 use Rattle.demands.proofs.Refusals.{by-sheet, by-state}
 use Rattle.demands.proofs.Replays.{Played, ended, differed, agreed, played}
@@ -46,17 +46,12 @@ replay-plays sheet state memory trace lay st p short formed =
 -- an exchange of a whole record is answered, and leaves such a start again
 module _ (sheet state memory command reply : List ℕ) (lay : Layout) (st : LinkState) (p : Playable sheet state memory lay st)
     (asked : length command ≡ lay .l) (lent : length reply ≡ lay .l) where
-  answers : Answered sheet state memory command reply lay st
-  unfolding refusalOf
-  answers = record {
-    valid = p .valid;
-    held = p .held;
-    free = pick-same _ _ (p .whole) ∙ pick-same _ _ asked ∙ pick-same _ _ lent ∙ pick-ne _ _ (p .on);
-  }
+  answers : exchangeOf sheet state memory command reply ≡ exchanged sheet lay st memory command
+  answers = is-exchanged sheet state memory command reply lay (p .valid) st (p .held) (p .whole) asked lent (p .on)
 
   answered-zero : exchangeOf sheet state memory command reply .answer ≡ told 0 0
   unfolding exchanged
-  answered-zero = ap (λ (x : Left). x .answer) (answered-is sheet state memory command reply lay st answers)
+  answered-zero = ap (λ (x : Left). x .answer) answers
 
   pub again : Playable sheet (exchangeOf sheet state memory command reply .state) (exchangeOf sheet state memory command reply .memory) lay
       (outcomeOf sheet lay st (commandOf command) .next)
@@ -67,7 +62,7 @@ module _ (sheet state memory command reply : List ℕ) (lay : Layout) (st : Link
       let on = outcome-on sheet lay st (commandOf command) (lay .l) facts (omega (arith, z)) in
       record {
         valid = p .valid;
-        held = ap (λ (x : Left). stateOf (x .state) (lay .l)) (answered-is sheet state memory command reply lay st answers)
+        held = ap (λ (x : Left). stateOf (x .state) (lay .l)) answers
             ∙ read-back _ (lay .l) (outcome-valid sheet lay st (commandOf command) (lay .l) facts (omega (arith, z)));
         whole = memory-keeps-its-length sheet state memory command reply ∙ p .whole;
         on = λ e. omega (arith, on, e);
@@ -110,14 +105,15 @@ module _ (m₁ m₂ : List ℕ) where
 
 pub secrets-in-whole-replay : SecretsInWholeReplay
 unfolding replayOf
-secrets-in-whole-replay sheet lay v state m₁ m₂ hidden trace =
+secrets-in-whole-replay h w state m₁ m₂ hidden trace =
+    let v = complete h w in
     subst₂ (λ (r₁ r₂ : Replayed). Alike m₁ m₂ r₁ r₂) (sym (on-valid _ _ _ _ v)) (sym (on-valid _ _ _ _ v))
-    (by-held m₁ m₂ (stateOf state (lay .l)) (refused m₁ m₂ _ state)
+    (by-held m₁ m₂ (stateOf state (h .l)) (refused m₁ m₂ _ state)
     (λ st.
     subst₂ (λ (r₁ r₂ : Replayed). Alike m₁ m₂ r₁ r₂) (sym (pick-same _ _ (hidden .whole₁))) (sym (pick-same _ _ (hidden .whole₂)))
     (by-test m₁ m₂ _ (refused m₁ m₂ _ state)
     (by-test m₁ m₂ _ (refused m₁ m₂ _ state)
-    (secrets-in-replay sheet lay v state m₁ m₂ hidden (lay .l) 0 _ (traces-have-replies (lay .l) trace) .alike)))))
+    (secrets-in-replay h w state m₁ m₂ hidden (h .l) 0 _ (traces-have-replies (h .l) trace) .alike)))))
 
 -- records that are played are told with 0 or 34
 told-of : (sheet : List ℕ) (l : ℕ) {k : ℕ} {state memory : List ℕ} {ts front : List Traced} {r : Replayed} → Played sheet l k state memory ts front r

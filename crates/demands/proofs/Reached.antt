@@ -7,9 +7,8 @@ use native.Mathlib.Omega.{arith}
 use lib.ListN.{length, getD}
 use Rattle.octets.proofs.Cases.{eq-or-ne}
 use Rattle.octets.proofs.Pick.{pick-eq, pick-ne}
-use Rattle.sheet.specs.Walk.{verdictOf}
-use Rattle.sheet.specs.declared.walk.Layout.{Layout}
-use Rattle.sheet.specs.declared.walk.Verdict.the-variants.{Valid}
+use Rattle.law.specs.Sheet.{Sheet, WellFormed, sheetOctets, room, IsOctet}
+use Rattle.law.specs.Words.{Every}
 use Rattle.slave.specs.Wanted.{differsAt}
 use Rattle.slave.proofs.Differs.{differs-most}
 use Rattle.replay.specs.Replay.{Replayed, playOf}
@@ -21,12 +20,16 @@ use Rattle.demands.specs.Writes.{Reached}
 use Rattle.demands.proofs.Folded.{memory-behind}
 use Rattle.octets.proofs.Overlaid.{still-agree}
 use Rattle.demands.proofs.Owned.{writes-own-octets}
-use Rattle.demands.proofs.Replays.{reply-keeps, play-on, play-over, played}
+use Rattle.demands.proofs.Lengths.{reply-keeps}
+use Rattle.demands.proofs.Replays.{play-on, play-over, played}
 use Rattle.demands.proofs.Secrets.{call-kept, demand-3}
 
 -- two replays that agree at every readable place tell the same, and agree with the same records
-module _ (sheet : List ℕ) (lay : Layout) (v : verdictOf sheet ≡ Valid lay) (l : ℕ) (E : ℕ → Type 0) (readable : (i : ℕ) → Readable sheet lay i → E i) where
-  play-same : (k : ℕ) (ts : List Traced) → RepliesOf l ts → (state m₁ m₂ : List ℕ) → length m₁ ≡ lay .memory → length m₂ ≡ lay .memory
+module _ (h : Sheet) (good : WellFormed h) (l : ℕ) (E : ℕ → Type 0) (readable : (i : ℕ) → Readable h i → E i) where
+  abbrev sheet : List ℕ
+  sheet = sheetOctets h
+
+  play-same : (k : ℕ) (ts : List Traced) → RepliesOf l ts → (state m₁ m₂ : List ℕ) → length m₁ ≡ room (h .regions) → length m₂ ≡ room (h .regions)
       → ((i : ℕ) → E i → getD m₁ i 0 ≡ getD m₂ i 0)
       → (playOf sheet l k state m₁ ts .answer ≡ playOf sheet l k state m₂ ts .answer)
       × (playOf sheet l k state m₁ ts .state ≡ playOf sheet l k state m₂ ts .state)
@@ -34,7 +37,7 @@ module _ (sheet : List ℕ) (lay : Layout) (v : verdictOf sheet ≡ Valid lay) (
   unfolding playOf agreeing callOf
   play-same k [] w state m₁ m₂ w₁ w₂ agree = (refl, refl, refl)
   play-same k (t ∷ ts) w state m₁ m₂ w₁ w₂ agree =
-      let both = call-kept sheet lay v E readable state m₁ m₂ w₁ w₂ agree (Exchange (t .command) (t .reply)) in
+      let both = call-kept h good E readable state m₁ m₂ w₁ w₂ agree (Exchange (t .command) (t .reply)) in
       let x₁ = ours sheet state m₁ t in
       let x₂ = ours sheet state m₂ t in
       let d₁ = differsAt (x₁ .reply) (t .reply) in
@@ -68,9 +71,10 @@ module _ (sheet : List ℕ) (lay : Layout) (v : verdictOf sheet ≡ Valid lay) (
       (eq-or-ne d₁ l)
 
 pub secrets-in-replay : SecretsInReplay
-secrets-in-replay sheet lay v state m₁ m₂ hidden l k ts w =
-    let s = play-same sheet lay v l (λ i. getD m₁ i 0 ≡ getD m₂ i 0) (hidden .shown) k ts w state m₁ m₂ (hidden .whole₁) (hidden .whole₂) (λ i e. e) in
-    let run = demand-3 sheet lay v state m₁ m₂ hidden (callsOf (agreeing sheet state m₁ ts)) in
+secrets-in-replay h good state m₁ m₂ hidden l k ts w =
+    let sheet = sheetOctets h in
+    let s = play-same h good l (λ i. getD m₁ i 0 ≡ getD m₂ i 0) (hidden .shown) k ts w state m₁ m₂ (hidden .whole₁) (hidden .whole₂) (λ i e. e) in
+    let run = demand-3 h good state m₁ m₂ hidden (callsOf (agreeing sheet state m₁ ts)) in
     let b₁ = memory-behind sheet l (played sheet l k state m₁ ts w) in
     let b₂ : playOf sheet l k state m₂ ts .memory ≡ lastMemory m₂ (runOf sheet state m₂ (callsOf (agreeing sheet state m₁ ts))) =
     memory-behind sheet l (played sheet l k state m₂ ts w)
@@ -82,18 +86,18 @@ secrets-in-replay sheet lay v state m₁ m₂ hidden l k ts w =
     }
 
 -- a place that no call of a run reached
-unreached : (sheet : List ℕ) (calls : List Call) (state memory : List ℕ) (place : ℕ) → (Reached sheet state memory calls place → ⊥)
+unreached : (sheet : List ℕ) → Every IsOctet sheet → (calls : List Call) (state memory : List ℕ) (place : ℕ) → (Reached sheet state memory calls place → ⊥)
     → getD (lastMemory memory (runOf sheet state memory calls)) place 0 ≡ getD memory place 0
 unfolding runOf callOf lastMemory
-unreached sheet [] state memory place none = refl
-unreached sheet (Reset ∷ cs) state memory place none = unreached sheet cs (callOf sheet state memory Reset .state) memory place (λ r. none (inr r))
-unreached sheet (Enable ∷ cs) state memory place none = unreached sheet cs (callOf sheet state memory Enable .state) memory place (λ r. none (inr r))
-unreached sheet (Exchange command reply ∷ cs) state memory place none =
+unreached sheet o [] state memory place none = refl
+unreached sheet o (Reset ∷ cs) state memory place none = unreached sheet o cs (callOf sheet state memory Reset .state) memory place (λ r. none (inr r))
+unreached sheet o (Enable ∷ cs) state memory place none = unreached sheet o cs (callOf sheet state memory Enable .state) memory place (λ r. none (inr r))
+unreached sheet o (Exchange command reply ∷ cs) state memory place none =
     let x = callOf sheet state memory (Exchange command reply) in
-    unreached sheet cs (x .state) (x .memory) place (λ r. none (inr r))
-    ∙ writes-own-octets sheet state memory command reply place .1 (λ i o. none (inl (i, o)))
+    unreached sheet o cs (x .state) (x .memory) place (λ r. none (inr r))
+    ∙ writes-own-octets sheet state memory command reply place o .1 (λ i q. none (inl (i, q)))
 
 pub only-agreeing-reach : OnlyAgreeingReach
-only-agreeing-reach sheet state memory l k ts w place none =
+only-agreeing-reach sheet state memory l k ts o w place none =
     ap (λ (m : List ℕ). getD m place 0) (memory-behind sheet l (played sheet l k state memory ts w))
-    ∙ unreached sheet (callsOf (agreeing sheet state memory ts)) state memory place none
+    ∙ unreached sheet o (callsOf (agreeing sheet state memory ts)) state memory place none

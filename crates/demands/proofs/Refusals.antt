@@ -1,6 +1,7 @@
--- Demand 1 over the calls: a refused call changes nothing; and behind a reset every state is a valid record.
-use mathlib.Core.Bool.{not}
-use mathlib.Core.Path.{_≡_, refl}
+-- Demand 1 over the calls: a refused call changes nothing, and a valid state stays one.
+use mathlib.Core.Bool.{true, false, not}
+use mathlib.Core.Logic.{⊎-elim}
+use mathlib.Core.Path.{_≡_, refl, sym, ap, _∙_}
 use mathlib.Core.List.{List, [], _∷_}
 use Prim.Native.Nat.{ℕ, _≤_}
 use native.Mathlib.Omega.{arith}
@@ -10,7 +11,7 @@ use lib.ListN.{length}
 use Rattle.octets.proofs.Pick.{pick-both, pick-cases}
 use Rattle.frame.specs.Fields.{commandOf}
 use Rattle.link.specs.Steps.{fresh, enabled}
-use Rattle.link.specs.Stored.{octetsOf, stateOf}
+use Rattle.link.specs.Stored.{fieldsOf, octetsOf, stateOf}
 use Rattle.link.specs.declared.state.LinkState.{LinkState}
 use Rattle.link.specs.declared.stored.Stored.{Stored}
 use Rattle.link.specs.declared.stored.Stored.the-variants.{State, Invalid}
@@ -30,6 +31,13 @@ use Rattle.slave.specs.Exchange.{Left, exchanged, exchangeOf}
 use Rattle.slave.specs.declared.answers.Answer.{Answer}
 use Rattle.slave.proofs.Order.{no-refusal}
 use Rattle.demands.specs.Sequences.{Call, Reset, Enable, Exchange, beside, callOf, runOf}
+use Rattle.law.specs.Sheet.{Sheet, WellFormed, sheetOctets}
+use Rattle.law.specs.State.{validState}
+use Rattle.law.proofs.Clauses.{state-yes, state-no}
+use Rattle.law.proofs.Complete.{complete}
+use Rattle.law.proofs.Layouts.{layoutFor}
+use Rattle.sheet.proofs.Valid.{same-layout}
+use Rattle.octets.proofs.Cases.{decided}
 use Rattle.demands.specs.Refused.{Unchanged, RefusedChangesNothing, ValidRecord, EachState, StatesStayValid}
 use Rattle.machine.proofs.Nexts.{outcome-valid}
 
@@ -87,62 +95,91 @@ fault-counts Disorder place e = omega arith
 fault-counts Excess place e = omega arith
 fault-counts Unmapped place e = omega arith
 
+-- a state that the machine reads beside the sheet
+abbrev Held : List ℕ → List ℕ → Type 0
+Held sheet state = (lay : Layout) × (st : LinkState) × (verdictOf sheet ≡ Valid lay) × (stateOf state (lay .l) ≡ State st)
+
 module _ (sheet : List ℕ) where
-  -- a state that was written beside a valid sheet is a valid record
-  written-valid : (lay : Layout) (st : LinkState) → verdictOf sheet ≡ Valid lay → Facts (lay .l) st → ValidRecord sheet (octetsOf st)
+  -- a state that was written beside a valid sheet is one
+  written-valid : (lay : Layout) (st : LinkState) → verdictOf sheet ≡ Valid lay → Facts (lay .l) st → Held sheet (octetsOf st)
   written-valid lay st v f = (lay, st, v, read-back st (lay .l) f)
 
-  reset-valid : (state : List ℕ) → resetOf sheet state .answer .number ≡ 0 → ValidRecord sheet (resetOf sheet state .state)
+  reset-valid : (state : List ℕ) → resetOf sheet state .answer .number ≡ 0 → Held sheet (resetOf sheet state .state)
   unfolding resetOf
   reset-valid state =
-      by-sheet (λ (a : After). a .answer .number ≡ 0 → ValidRecord sheet (a .state)) (verdictOf sheet) _ _
+      by-sheet (λ (a : After). a .answer .number ≡ 0 → Held sheet (a .state)) (verdictOf sheet) _ _
       (λ fault place e. absurd (fault-counts fault place e))
       (λ lay v.
-      pick-both (λ (a : After). a .answer .number ≡ 0 → ValidRecord sheet (a .state)) _ (λ e. absurd (let k : ⊥ = omega arith in k))
+      pick-both (λ (a : After). a .answer .number ≡ 0 → Held sheet (a .state)) _ (λ e. absurd (let k : ⊥ = omega arith in k))
       (λ e. written-valid lay (fresh (lay .l)) v (fresh-valid (lay .l))))
 
-  module _ (state memory : List ℕ) (ok : ValidRecord sheet state) where
-    again-reset : ValidRecord sheet (resetOf sheet state .state)
+  module _ (state memory : List ℕ) (ok : Held sheet state) where
+    again-reset : Held sheet (resetOf sheet state .state)
     unfolding resetOf
     again-reset =
-        by-sheet (λ (a : After). ValidRecord sheet (a .state)) (verdictOf sheet) _ _ (λ fault place. ok)
-        (λ lay v. pick-both (λ (a : After). ValidRecord sheet (a .state)) _ ok (written-valid lay (fresh (lay .l)) v (fresh-valid (lay .l))))
+        by-sheet (λ (a : After). Held sheet (a .state)) (verdictOf sheet) _ _ (λ fault place. ok)
+        (λ lay v. pick-both (λ (a : After). Held sheet (a .state)) _ ok (written-valid lay (fresh (lay .l)) v (fresh-valid (lay .l))))
 
-    then-enable : ValidRecord sheet (enableOf sheet state .state)
+    then-enable : Held sheet (enableOf sheet state .state)
     unfolding enableOf
     then-enable =
-        by-sheet (λ (a : After). ValidRecord sheet (a .state)) (verdictOf sheet) _ _ (λ fault place. ok)
+        by-sheet (λ (a : After). Held sheet (a .state)) (verdictOf sheet) _ _ (λ fault place. ok)
         (λ lay v.
-        by-state (λ (a : After). ValidRecord sheet (a .state)) (stateOf state (lay .l)) _ _ ok
+        by-state (λ (a : After). Held sheet (a .state)) (stateOf state (lay .l)) _ _ ok
         (λ st h.
-        pick-cases (λ (a : After). ValidRecord sheet (a .state)) (not (eqb (st .link) 0)) (λ e. ok)
+        pick-cases (λ (a : After). Held sheet (a .state)) (not (eqb (st .link) 0)) (λ e. ok)
         (λ e. written-valid lay (enabled st) v (enabled-valid (lay .l) st (read-valid state (lay .l) st h .1) (eqb-true (st .link) 0 (not-false _ e))))))
 
-    then-exchange : (command reply : List ℕ) → ValidRecord sheet (exchangeOf sheet state memory command reply .state)
+    then-exchange : (command reply : List ℕ) → Held sheet (exchangeOf sheet state memory command reply .state)
     unfolding exchangeOf exchanged
     then-exchange command reply =
-        by-sheet (λ (x : Left). ValidRecord sheet (x .state)) (verdictOf sheet) _ _ (λ fault place. ok)
+        by-sheet (λ (x : Left). Held sheet (x .state)) (verdictOf sheet) _ _ (λ fault place. ok)
         (λ lay v.
-        by-state (λ (x : Left). ValidRecord sheet (x .state)) (stateOf state (lay .l)) _ _ ok
+        by-state (λ (x : Left). Held sheet (x .state)) (stateOf state (lay .l)) _ _ ok
         (λ st h.
-        pick-cases (λ (x : Left). ValidRecord sheet (x .state)) _ (λ e. ok)
+        pick-cases (λ (x : Left). Held sheet (x .state)) _ (λ e. ok)
         (λ e.
         let q = no-refusal lay st (length memory) (length command) (length reply) (eqb-true _ 0 (not-false _ e)) in
         let on : 1 ≤ st .link = omega (arith, q .3) in
         written-valid lay _ v (outcome-valid sheet lay st (commandOf command) (lay .l) (read-valid state (lay .l) st h .1) on))))
 
-    then-call : (c : Call) → ValidRecord sheet (callOf sheet state memory c .state)
+    then-call : (c : Call) → Held sheet (callOf sheet state memory c .state)
     unfolding callOf
     then-call Reset = again-reset
     then-call Enable = then-enable
     then-call (Exchange command reply) = then-exchange command reply
 
-  run-valid : (state memory : List ℕ) → ValidRecord sheet state → (calls : List Call) → EachState (ValidRecord sheet) (runOf sheet state memory calls)
+  run-valid : (state memory : List ℕ) → Held sheet state → (calls : List Call) → EachState (Held sheet) (runOf sheet state memory calls)
   unfolding runOf
   run-valid state memory ok [] = tt
   run-valid state memory ok (c ∷ cs) =
       let l = callOf sheet state memory c in
       (then-call state memory ok c, run-valid (l .state) (l .memory) (then-call state memory ok c) cs)
 
+-- the machine reads what the law calls valid, and no other
+module _ (h : Sheet) (w : WellFormed h) where
+  held : (state : List ℕ) → ValidRecord h state → Held (sheetOctets h) state
+  unfolding fieldsOf
+  held state v = (layoutFor h, fieldsOf state, complete h w, state-yes h state v .0)
+
+  valid : (state : List ℕ) → Held (sheetOctets h) state → ValidRecord h state
+  valid state (lay, st, v, e) =
+      ⊎-elim
+      (λ (b : validState h state ≡ true). b)
+      (λ (b : validState h state ≡ false).
+      let same : lay ≡ layoutFor h = same-layout (sym v ∙ complete h w) in
+      absurd (no-state (sym (state-no h state b) ∙ ap (λ (x : Layout). stateOf state (x .l)) (sym same) ∙ e)))
+      (decided (validState h state))
+    where
+      no-state : {x : LinkState} → Invalid ≡ State x → ⊥
+      no-state q = let z : _≡_ {A = ℕ} 0 1 = cc in omega arith
+
+  each-valid : (ls : List Left) → EachState (Held (sheetOctets h)) ls → EachState (ValidRecord h) ls
+  each-valid [] all = tt
+  each-valid (l ∷ ls) (x, all) = (valid (l .state) x, each-valid ls all)
+
 pub states-stay-valid : StatesStayValid
-states-stay-valid sheet state memory e calls = run-valid sheet (resetOf sheet state .state) memory (reset-valid sheet state e) calls
+states-stay-valid = record {
+  from-a-valid-one = λ h w state memory v calls. each-valid h w (runOf (sheetOctets h) state memory calls) (run-valid (sheetOctets h) state memory (held h w state v) calls);
+  reset-leaves-one = λ h w state e. valid h w (resetOf (sheetOctets h) state .state) (reset-valid (sheetOctets h) state e);
+}

@@ -1,36 +1,22 @@
 -- The replay, taken apart record by record.
 --     differs-none, differs-before, differs-there     what the first differing octet says of two replies of one length
---     reply-keeps                                     an exchange keeps the length of the reply, whatever is lent
 --     played                                          a replay as what happened at each of its records
 use mathlib.Core.Logic.{⊎-elim}
 use mathlib.Core.Path.{_≡_, refl, sym, ap, ap₂, subst, subst₂, _∙_}
 use mathlib.Core.List.{List, [], _∷_}
 use Prim.Native.Nat.{ℕ, zero, suc, _+_, _*_, _≤_, _<_}
 use native.Mathlib.Omega.{arith}
-use borrow.Author.Tests.{eqb-true, eqb-false, eq-eqb, ne-eqb, not-false}
+use borrow.Author.Tests.{eqb-true, eqb-false, eq-eqb, ne-eqb}
 use lib.Dec.{eqb}
 use lib.ListN.{length, getD}
 use Rattle.octets.proofs.Cases.{decided, eq-or-ne}
-use Rattle.octets.proofs.Pick.{pick-yes, pick-no, pick-lt, pick-ge, pick-eq, pick-ne, pick-cases}
-use Rattle.frame.specs.Body.{Fitting}
-use Rattle.frame.specs.Fields.{commandOf}
-use Rattle.link.specs.Stored.{stateOf}
-use Rattle.link.specs.declared.state.LinkState.{LinkState}
-use Rattle.machine.specs.Outcomes.{outcomeOf}
-use Rattle.sheet.specs.Walk.{verdictOf}
-use Rattle.sheet.specs.declared.walk.Layout.{Layout}
-use Rattle.sheet.specs.declared.walk.Verdict.the-variants.{Valid}
-use Rattle.sheet.proofs.Valid.{valid-sheet, length-least}
-use Rattle.slave.specs.Exchange.{Left, refusalOf, exchanged, exchangeOf}
+use Rattle.octets.proofs.Pick.{pick-yes, pick-no, pick-lt, pick-ge, pick-eq, pick-ne}
 use Rattle.slave.specs.Wanted.{differsAt, steppedOf}
 use Rattle.slave.proofs.Differs.{differs-most}
-use Rattle.slave.proofs.Fits.{outcome-fits}
-use Rattle.slave.proofs.Order.{no-refusal}
 use Rattle.replay.specs.Replay.{Replayed, replayed, onStep, playOf}
 use Rattle.replay.specs.Trace.{Traced, says}
 use Rattle.demands.specs.Replays.{ours, agreeing, RepliesOf}
-use Rattle.demands.proofs.Refusals.{by-sheet, by-state}
-use Rattle.demands.proofs.Replies.{reply-length}
+use Rattle.demands.proofs.Lengths.{reply-keeps}
 
 -- a search through replies of one length that stops nowhere: they are one
 pub differs-none : (xs ys : List ℕ) → length xs ≡ length ys → differsAt xs ys ≡ length ys → xs ≡ ys
@@ -77,29 +63,6 @@ differs-there (x ∷ xs) (y ∷ ys) e h =
     (λ q same.
     eqb-false x y q (subst (λ (n : ℕ). getD (x ∷ xs) n 0 ≡ getD (y ∷ ys) n 0) (pick-no (suc (differsAt xs ys)) 0 q) same))
     (decided (eqb x y))
-
--- an exchange that is answered
-exchanged-reply : (sheet memory command reply : List ℕ) (lay : Layout) (st : LinkState) → verdictOf sheet ≡ Valid lay
-    → refusalOf lay st (length memory) (length command) (length reply) ≡ 0 → length (exchanged sheet lay st memory command .reply) ≡ length reply
-unfolding exchanged
-exchanged-reply sheet memory command reply lay st v free =
-    let ok = valid-sheet sheet lay v in
-    let r = no-refusal lay st (length memory) (length command) (length reply) free in
-    let o = outcomeOf sheet lay st (commandOf command) in
-    let f : Fitting (o .effect) (length command) (length memory) (length sheet) =
-    subst₂ (λ (c m : ℕ). Fitting (o .effect) c m (length sheet)) (sym (r .1)) (sym (r .0)) (outcome-fits sheet lay ok st (commandOf command)) in
-    let least = length-least sheet lay ok in
-    reply-length sheet memory command o (omega (arith, r .1)) f ∙ r .1 ∙ sym (r .2)
-
-pub reply-keeps : (sheet state memory command reply : List ℕ) → length (exchangeOf sheet state memory command reply .reply) ≡ length reply
-reply-keeps sheet state memory command reply =
-    unfold exchangeOf in
-    by-sheet (λ (l : Left). length (l .reply) ≡ length reply) (verdictOf sheet) _ _ (λ fault p. refl)
-    (λ lay v.
-    by-state (λ (l : Left). length (l .reply) ≡ length reply) (stateOf state (lay .l)) _ _ refl
-    (λ st h.
-    pick-cases (λ (l : Left). length (l .reply) ≡ length reply) _ (λ e. refl)
-    (λ e. exchanged-reply sheet memory command reply lay st v (eqb-true _ 0 (not-false _ e)))))
 
 -- one record of a replay
 module _ (sheet state memory : List ℕ) (l k : ℕ) (t : Traced) (ts : List Traced) where

@@ -1,109 +1,139 @@
--- Whatever the machine reads of the memory has the read right.
-use mathlib.Core.Bool.{Bool, true, false}
-use mathlib.Core.Path.{_≡_, sym, ap, subst, _∙_}
-use mathlib.Core.List.{List}
-use Prim.Native.Nat.{ℕ, _+_, _*_, _<_}
-use native.Mathlib.Nat.{le-refl}
+-- What becomes of a command does not depend on octets without the read right.
+--     held-same     what is read of a readable span
+--     fate-same     and so the whole fate
+use mathlib.Core.Bool.{true, false, and-eq-true-iff}
+use mathlib.Core.Logic.{⊎-elim}
+use mathlib.Core.Path.{_≡_, refl, sym, ap, ap₂, _∙_}
+use mathlib.Core.List.{List, [], _∷_}
+use Prim.Native.Nat.{ℕ, zero, suc, _+_}
 use native.Mathlib.Omega.{arith}
-use borrow.Author.Tests.{eqb-true, not-false}
-use Rattle.octets.proofs.Pick.{pick-both, pick-cases}
-use Rattle.link.specs.declared.state.LinkState.{LinkState}
-use Rattle.machine.specs.Connecting.{connectOf}
-use Rattle.machine.specs.Judging.{parameterData, parameterOf, itemData, itemOf, alarmsOf, clearOf, elementOf, memoryOf, dataOf, judgeOf}
-use Rattle.machine.specs.Outcomes.{finished, outcomeOf}
-use Rattle.machine.specs.Spans.{rightOf, moved, placeIn, spanPlace, spanOf}
-use Rattle.machine.specs.declared.words.Carrier.{Carrier}
-use Rattle.machine.specs.declared.words.Command.{Command}
-use Rattle.machine.specs.declared.words.Effect.{Effect}
-use Rattle.machine.specs.declared.words.Effect.the-variants.{Quiet, Reads, Writes, Identifies, Alarms, Connects}
-use Rattle.machine.specs.declared.words.Judgement.{Judgement}
-use Rattle.machine.specs.declared.words.Judgement.the-variants.{Refused, Accepted}
-use Rattle.machine.specs.declared.words.Outcome.{Outcome}
-use Rattle.regions.specs.Apart.{Apart}
-use Rattle.regions.specs.Region.{regionsOf}
-use Rattle.regions.specs.Search.{beforeOf, spanHas}
-use Rattle.regions.specs.declared.Region.{Region}
-use Rattle.regions.specs.declared.Right.the-variants.{Mapped, Read}
-use Rattle.regions.proofs.Places.{Stands, spot-rights, mapped-spot, span-places}
-use Rattle.regions.proofs.Spans.{all-before}
-use Rattle.sheet.specs.declared.entries.SoughtItem.{SoughtItem}
-use Rattle.sheet.specs.declared.entries.SoughtParameter.{SoughtParameter}
-use Rattle.sheet.specs.declared.walk.Layout.{Layout}
-use Rattle.sheet.proofs.Valid.{ValidSheet, valid-apart}
-use Rattle.demands.specs.Hidden.{Readable}
+use lib.Dec.{eqb}
+use lib.ListN.{getD, drop}
+use lib.Seq.{getD-drop}
+use Rattle.octets.proofs.Cases.{decided}
+use Rattle.law.specs.Words.{when, Every, oneOf, octet, number, piece}
+use Rattle.law.specs.Sheet.{Sheet}
+use Rattle.law.specs.State.{link}
+use Rattle.law.specs.Memory.{Cell, cells, readable, has, hasAll, heldAt, held}
+use Rattle.law.specs.Table.{Asked, check, Row, again, table, parameter, n}
+use Rattle.law.specs.Exchange.{fate, missed, lost, checked, judged, fateOf}
+use Rattle.law.proofs.Laid.{when-yes, when-no}
+use Rattle.demands.specs.Writes.{cellAt}
+use Rattle.demands.proofs.Fates.{Holds, doneRow}
 
--- the octets of a mapped span stand from the span's place on
-pub places-from : (rs : List Region) → Apart 0 rs → (a n : ℕ) → spanHas rs Mapped a n ≡ true → (j : ℕ) → j < n → Stands rs 0 (a + j) (spanPlace rs a + j)
-unfolding placeIn
-places-from rs d a n h j l =
-    let all : beforeOf rs Mapped a n ≡ n = eqb-true _ _ h in
-    let spot = mapped-spot rs 0 a (all-before rs Mapped a n all a (le-refl a) (omega arith)) in
-    let t = span-places 0 rs d 0 a (spot .0) n (spot .1) all j l in
-    let e : spot .0 ≡ spanPlace rs a = sym (ap placeIn (spot .1 .1)) in
-    subst (λ (p : ℕ). Stands rs 0 (a + j) (p + j)) e t
+-- two memories agree where the cells are readable
+abbrev pub AgreeShown : List Cell → List ℕ → List ℕ → Type 0
+AgreeShown cs m₁ m₂ = (i : ℕ) → readable (cellAt cs i .rights) ≡ true → getD m₁ i 0 ≡ getD m₂ i 0
 
-module _ (s : List ℕ) (lay : Layout) (ok : ValidSheet s lay) (st : LinkState) (c : Command) where
-  -- an effect that reads only what may be read
-  abbrev pub Shows : Effect → Type 0
-  Shows Quiet = Unit {0}
-  Shows (Reads by place n) = (j : ℕ) → j < n → Readable s lay (place + j)
-  Shows (Writes by place n) = Unit {0}
-  Shows (Identifies at n) = Unit {0}
-  Shows (Alarms old fault) = Unit {0}
-  Shows Connects = Unit {0}
+behind-first : (x : Cell) (xs : List Cell) (m₁ m₂ : List ℕ) → AgreeShown (x ∷ xs) m₁ m₂ → AgreeShown xs (drop 1 m₁) (drop 1 m₂)
+behind-first x xs m₁ m₂ agree i r =
+    let k : (m : List ℕ) → getD (drop 1 m) i 0 ≡ getD m (suc i) 0 = λ m. getD-drop 1 m i 0 ∙ ap (λ (j : ℕ). getD m j 0) (let e : 1 + i ≡ suc i = omega arith in e) in
+    k m₁ ∙ agree (suc i) r ∙ sym (k m₂)
 
-  abbrev J : Judgement → Type 0
-  J (Refused alarm) = Unit {0}
-  J (Accepted effect next) = Shows effect
+at-same : (cs : List Cell) (m₁ m₂ : List ℕ) (a : ℕ) → AgreeShown cs m₁ m₂ → has readable cs a ≡ true → heldAt cs m₁ a ≡ heldAt cs m₂ a
+unfolding has heldAt
+at-same [] m₁ m₂ a agree e = refl
+at-same (x ∷ xs) m₁ m₂ a agree e =
+    ⊎-elim
+    (λ (t : eqb (x .address) a ≡ true). when-yes _ _ t ∙ agree 0 (sym (when-yes _ _ t) ∙ e) ∙ sym (when-yes _ _ t))
+    (λ (t : eqb (x .address) a ≡ false).
+    when-no _ _ t ∙ at-same xs (drop 1 m₁) (drop 1 m₂) a (behind-first x xs m₁ m₂ agree) (sym (when-no _ _ t) ∙ e) ∙ sym (when-no _ _ t))
+    (decided (eqb (x .address) a))
 
-  moved-shows : (writes : Bool) (by : Carrier) (a n : ℕ) → spanHas (regionsOf s (lay .regions)) Mapped a n ≡ true
-      → spanHas (regionsOf s (lay .regions)) (rightOf writes (st .link)) a n ≡ true → Shows (moved writes by (spanPlace (regionsOf s (lay .regions)) a) n)
-  unfolding moved rightOf
-  moved-shows true by a n m r = tt
-  moved-shows false by a n m r = λ j h.
-      let rs = regionsOf s (lay .regions) in
-      let t = places-from rs (valid-apart s lay ok) a n m j h in
-      let g = all-before rs Read a n (eqb-true _ _ r) (a + j) (omega arith) (omega arith) in
-      (a + j, t .0, t .1, sym (spot-rights rs 0 (a + j) (spanPlace rs a + j) (t .0) Read (t .1)) ∙ g)
+pub held-same : (cs : List Cell) (m₁ m₂ : List ℕ) (a k : ℕ) → AgreeShown cs m₁ m₂ → hasAll readable cs a k ≡ true → held cs m₁ a k ≡ held cs m₂ a k
+unfolding hasAll held
+held-same cs m₁ m₂ a zero agree e = refl
+held-same cs m₁ m₂ a (suc k) agree e =
+    let p = and-eq-true-iff (has readable cs a) (hasAll readable cs (suc a) k) .0 e in
+    ap₂ _∷_ (at-same cs m₁ m₂ a agree (p .0)) (held-same cs m₁ m₂ (suc a) k agree (p .1))
 
-  span-shows : (writes : Bool) (by : Carrier) (a n : ℕ) → J (spanOf writes (regionsOf s (lay .regions)) by a n st)
-  unfolding spanOf
-  span-shows writes by a n =
-      pick-cases J _ (λ u. tt) (λ u. pick-cases J _ (λ v. tt) (λ v. moved-shows writes by a n (not-false _ u) (not-false _ v)))
+-- two rows that do the same where their checks hold
+record Twin (r₁ r₂ : Row) : Type 0 where
+  pub code : r₁ .code ≡ r₂ .code
+  pub links : r₁ .links ≡ r₂ .links
+  pub checks : r₁ .checks ≡ r₂ .checks
+  pub done : Every Holds (r₁ .checks) → doneRow r₁ ≡ doneRow r₂
 
-  parameter-shows : (writes : Bool) (x : SoughtParameter) → J (parameterData writes (regionsOf s (lay .regions)) lay st c x)
-  unfolding parameterData
-  parameter-shows writes SoughtParameter.Missing = tt
-  parameter-shows writes (SoughtParameter.Found p) = pick-both J _ tt (pick-both J _ tt (span-shows writes _ (p .address) (p .size)))
+abbrev Twins : List Row → List Row → Type 0
+Twins [] rs = rs ≡ []
+Twins (r ∷ rs) [] = ⊥
+Twins (r ∷ rs) (q ∷ qs) = Twin r q × Twins rs qs
 
-  item-shows : (x : SoughtItem) → J (itemData lay st c x)
-  unfolding itemData
-  item-shows SoughtItem.Missing = tt
-  item-shows (SoughtItem.Found i) = pick-both J _ tt (pick-both J _ tt (pick-both J _ tt tt))
+checked-same : (s : List ℕ) (ks : List Asked) (r₁ r₂ : Row) → (Every Holds ks → doneRow r₁ ≡ doneRow r₂) → checked s ks r₁ ≡ checked s ks r₂
+unfolding checked
+checked-same s [] r₁ r₂ go = go tt
+checked-same s (k ∷ ks) r₁ r₂ go =
+    ⊎-elim
+    (λ (t : k .holds ≡ true). when-yes _ _ t ∙ checked-same s ks r₁ r₂ (λ all. go (t, all)) ∙ sym (when-yes _ _ t))
+    (λ (t : k .holds ≡ false). when-no _ _ t ∙ sym (when-no _ _ t))
+    (decided (k .holds))
 
-  judge-shows : J (judgeOf s lay st c)
-  unfolding judgeOf dataOf parameterOf itemOf alarmsOf clearOf connectOf memoryOf
-  judge-shows =
-      let memory : (writes : Bool) → J (memoryOf writes s lay st c) =
-      λ writes. pick-both J _ tt (pick-both J _ tt (pick-both J _ tt (span-shows writes _ (c .address) (c .count * elementOf (c .mode))))) in
-      pick-both J _ tt
-      (pick-both J _ tt
-      (pick-both J _ tt
-      (pick-both J _ (parameter-shows false _)
-      (pick-both J _ (parameter-shows true _)
-      (pick-both J _ (item-shows _)
-      (pick-both J _ (pick-both J _ tt (pick-both J _ tt tt))
-      (pick-both J _ (pick-both J _ tt tt)
-      (pick-both J _ tt
-      (pick-both J _ (pick-both J _ tt (pick-both J _ tt (pick-both J _ tt (pick-both J _ tt tt))))
-      (pick-both J _ tt
-      (pick-both J _ (memory false) (memory true))))))))))))
+judged-same : (s : List ℕ) (code : ℕ) (rs qs : List Row) → Twins rs qs → judged s code rs ≡ judged s code qs
+unfolding judged
+judged-same s code [] qs e = ap (judged s code) (sym e)
+judged-same s code (r ∷ rs) [] e = absurd e
+judged-same s code (r ∷ rs) (q ∷ qs) (t, ts) =
+    let first = checked-same s (check (oneOf (link s) (r .links)) 12 0 ∷ r .checks) r q (λ all. t .done (all .1))
+    ∙ ap₂ (λ (ls : List ℕ) (ks : List Asked). checked s (check (oneOf (link s) ls) 12 0 ∷ ks) q) (t .links) (t .checks) in
+    let rest = judged-same s code rs qs ts in
+    λ i. when (eqb code (t .code i)) (first i) (rest i)
 
-  finished-shows : (j : Judgement) → J j → Shows (finished st c j .effect)
-  unfolding finished
-  finished-shows (Refused alarm) g = tt
-  finished-shows (Accepted effect next) g = g
+same-row : (r : Row) → Twin r r
+same-row r = record { code = refl; links = refl; checks = refl; done = λ all. refl }
 
-  pub outcome-shows : Shows (outcomeOf s lay st c .effect)
-  unfolding outcomeOf
-  outcome-shows = pick-both (λ (o : Outcome). Shows (o .effect)) _ tt (finished-shows (judgeOf s lay st c) judge-shows)
+module _ (h : Sheet) (s m₁ m₂ c : List ℕ) (agree : AgreeShown (cells (h .regions)) m₁ m₂) where
+  -- the two rows that read
+  twins : Twins (table h s m₁ c) (table h s m₂ c)
+  twins =
+      let cs = cells (h .regions) in (
+        same-row _,
+        (
+          record {
+            code = refl;
+            links = refl;
+            checks = refl;
+            done = λ all. ap (λ (x : List ℕ). fate 0 [] (again c 4 6 ∷ piece 8 x ∷ []) [])
+                (held-same cs m₁ m₂ (parameter h s m₁ c .address) (parameter h s m₁ c .size) agree (all .1 .1 .1 .1 .0));
+          },
+          (
+            same-row _,
+            (
+              same-row _,
+              (
+                same-row _,
+                (
+                  same-row _,
+                  (
+                    same-row _,
+                    (
+                      same-row _,
+                      (
+                        same-row _,
+                        (
+                          record {
+                            code = refl;
+                            links = refl;
+                            checks = refl;
+                            done = λ all. ap (λ (x : List ℕ). fate 0 [] (again c 5 11 ∷ piece 12 x ∷ []) []) (held-same cs m₁ m₂ (number c 8 4) (n h s m₁ c) agree (all .1 .1 .1 .1 .0));
+                          },
+                          (
+                            same-row _,
+                            refl,
+                          ),
+                        ),
+                      ),
+                    ),
+                  ),
+                ),
+              ),
+            ),
+          ),
+        ),
+      )
+
+  pub row-same : judged s (octet c 0) (table h s m₁ c) ≡ judged s (octet c 0) (table h s m₂ c)
+  row-same = judged-same s (octet c 0) (table h s m₁ c) (table h s m₂ c) twins
+
+  pub fate-same : fateOf h s m₁ c ≡ fateOf h s m₂ c
+  unfolding fateOf
+  fate-same = ap (when (missed s c) lost) row-same

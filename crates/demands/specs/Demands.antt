@@ -2,12 +2,13 @@
 use Prim.Native.Nat.{ℕ}
 use mathlib.Core.List.{List}
 use mathlib.Core.Path.{_≡_}
+use Rattle.law.specs.ByTables.{ByTables, OneReading}
 use Rattle.slave.specs.Exchange.{Left}
 use Rattle.demands.specs.Accepted.{AcceptanceIsExact, RightsOverWholeSpan}
 use Rattle.demands.specs.Bench.{SheetPIsValid, BenchCases}
-use Rattle.demands.specs.Bodies.{BodyInTheReply}
 use Rattle.demands.specs.Hidden.{Demand3}
 use Rattle.demands.specs.Idle.{Demand2, KeepsSecrets, AgreesWhereReached, refusesAll, singleReply, storesNothing, echoesAfterwards, inventsRsn}
+use Rattle.demands.specs.LawBench.{BenchByLaw}
 use Rattle.demands.specs.OnTheWire.{RefusedOnTheWire}
 use Rattle.demands.specs.Refused.{RefusedChangesNothing, StatesStayValid}
 use Rattle.demands.specs.Replays.{TracesHaveReplies, AgreesExactly, ReplayIsFold, CutInTwo, FormsJoin, ReplayCutInTwo, SecretsInReplay, OnlyAgreeingReach, ReplayPlays, RecordsAreAnswered, SecretsInWholeReplay, RefusedReplayWritesNothing}
@@ -17,18 +18,20 @@ use Rattle.demands.specs.Writes.{WritesOwnOctets, MemoryKeepsItsLength}
 
 -- "1. Each call answers on every input. .. A refused call gives its number and, for the sheet, the place; state, memory and reply then hold what they
 -- held before. A command refused on the wire builds a whole reply, updates the state and stores nothing." That each call answers is the promise of each
--- function, which has no premise; the rest is here, and that a reset makes every later state a valid record.
+-- function, which has no premise; the rest is here, and that a valid state record stays one.
 pub record FirstDemand : Type 0 where
   pub a-refused-call-changes-nothing : RefusedChangesNothing
   pub a-command-refused-on-the-wire : RefusedOnTheWire
   pub states-stay-valid : StatesStayValid
 
 -- "2. A command is accepted exactly when document 01 accepts it: state, format, span, rights. Reply, next state and memory are the defined ones to the
--- octet, over every sequence of calls. A write stores its own octets and no others."
+-- octet, over every sequence of calls. A write stores its own octets and no others." The defined ones are those of the law, crates/law/specs, which is
+-- document 01 as tables; what stands below `by-tables` says some of it once more, by what a host sees.
 pub record SecondDemand : Type 0 where
+  pub by-tables : ByTables
+  pub one-reading : OneReading
   pub acceptance-is-exact : AcceptanceIsExact
   pub rights-over-the-whole-span : RightsOverWholeSpan
-  pub body-in-the-reply : BodyInTheReply
   pub over-every-sequence :
       (sheet state memory : List ℕ) (calls : List Call) (ls : List Left) → History sheet state memory calls ls → ls ≡ runOf sheet state memory calls
   pub a-write-stores-its-own-octets : WritesOwnOctets
@@ -49,10 +52,11 @@ pub record IdlePrograms : Type 0 where
   pub echoing-afterwards : (Demand2 echoesAfterwards → ⊥) × KeepsSecrets echoesAfterwards
   pub inventing-rsn : (Demand2 inventsRsn → ⊥) × KeepsSecrets inventsRsn × AgreesWhereReached inventsRsn
 
--- "All eleven are proved": the bench cases, as one list, and that sheet P is valid
+-- "All eleven are proved": the bench cases, as one list, by the machine and by the law alone; and that sheet P is valid
 pub record OnTheBench : Type 0 where
   pub sheet-p : SheetPIsValid
   pub cases : BenchCases
+  pub cases-by-the-law : BenchByLaw
 
 -- Document 02, request 6, "Replay the fitter's trace", of the replay as it is defined.
 pub record Request6 : Type 0 where

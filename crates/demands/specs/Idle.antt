@@ -5,9 +5,7 @@ use Prim.Native.Nat.{ℕ}
 use mathlib.Core.List.{List, [], _∷_, map}
 use mathlib.Core.Path.{_≡_}
 use lib.ListN.{getD, set}
-use Rattle.sheet.specs.Walk.{verdictOf}
-use Rattle.sheet.specs.declared.walk.Layout.{Layout}
-use Rattle.sheet.specs.declared.walk.Verdict.the-variants.{Valid}
+use Rattle.law.specs.Sheet.{Sheet, WellFormed, sheetOctets}
 use Rattle.slave.specs.Answers.{told}
 use Rattle.slave.specs.Exchange.{Left, left, exchangeOf}
 use Rattle.demands.specs.Bench.{case1}
@@ -28,19 +26,17 @@ Demand2 p = (sheet state memory : List ℕ) (calls : List Call) → p sheet stat
 -- writes, and so of demand 2's machine; it follows below.
 abbrev pub KeepsSecrets : Program → Type 0
 KeepsSecrets p =
-    (sheet : List ℕ) (lay : Layout) → verdictOf sheet ≡ Valid lay
-    → (state m₁ m₂ : List ℕ) → DifferOnlyHidden sheet lay m₁ m₂ → (calls : List Call)
-    → (map seen (p sheet state m₁ calls) ≡ map seen (p sheet state m₂ calls))
+    (h : Sheet) → WellFormed h → (state m₁ m₂ : List ℕ) → DifferOnlyHidden h m₁ m₂ → (calls : List Call)
+    → (map seen (p (sheetOctets h) state m₁ calls) ≡ map seen (p (sheetOctets h) state m₂ calls))
     × ((place : ℕ) → getD m₁ place 0 ≡ getD m₂ place 0
-    → getD (lastMemory m₁ (p sheet state m₁ calls)) place 0 ≡ getD (lastMemory m₂ (p sheet state m₂ calls)) place 0)
+    → getD (lastMemory m₁ (p (sheetOctets h) state m₁ calls)) place 0 ≡ getD (lastMemory m₂ (p (sheetOctets h) state m₂ calls)) place 0)
 
 -- the last part of demand 3: the memories agree wherever a write that demand 2's machine accepts has reached
 abbrev pub AgreesWhereReached : Program → Type 0
 AgreesWhereReached p =
-    (sheet : List ℕ) (lay : Layout) → verdictOf sheet ≡ Valid lay
-    → (state m₁ m₂ : List ℕ) → DifferOnlyHidden sheet lay m₁ m₂ → (calls : List Call)
-    → (place : ℕ) → Reached sheet state m₁ calls place
-    → getD (lastMemory m₁ (p sheet state m₁ calls)) place 0 ≡ getD (lastMemory m₂ (p sheet state m₂ calls)) place 0
+    (h : Sheet) → WellFormed h → (state m₁ m₂ : List ℕ) → DifferOnlyHidden h m₁ m₂ → (calls : List Call)
+    → (place : ℕ) → Reached (sheetOctets h) state m₁ calls place
+    → getD (lastMemory m₁ (p (sheetOctets h) state m₁ calls)) place 0 ≡ getD (lastMemory m₂ (p (sheetOctets h) state m₂ calls)) place 0
 
 -- one that refuses all
 unfoldable pub refusesAll : Program

@@ -5,10 +5,10 @@ pub mod Sequences
 pub mod Answered
 pub mod Accepted
 pub mod OnTheWire
-pub mod Bodies
 pub mod Writes
 pub mod Hidden
 pub mod Idle
 pub mod Replays
 pub mod Unique
 pub mod Bench
+pub mod LawBench

@@ -1,13 +1,10 @@
 -- Demand 1 over the calls.
 use Prim.Native.Nat.{ℕ}
+use mathlib.Core.Bool.{true}
 use mathlib.Core.List.{List, [], _∷_}
 use mathlib.Core.Path.{_≡_}
-use Rattle.link.specs.Stored.{stateOf}
-use Rattle.link.specs.declared.state.LinkState.{LinkState}
-use Rattle.link.specs.declared.stored.Stored.the-variants.{State}
-use Rattle.sheet.specs.Walk.{verdictOf}
-use Rattle.sheet.specs.declared.walk.Layout.{Layout}
-use Rattle.sheet.specs.declared.walk.Verdict.the-variants.{Valid}
+use Rattle.law.specs.Sheet.{Sheet, WellFormed, sheetOctets}
+use Rattle.law.specs.State.{validState}
 use Rattle.slave.specs.Calls.{resetOf}
 use Rattle.slave.specs.Exchange.{Left}
 use Rattle.demands.specs.Sequences.{Call, Reset, Enable, Exchange, callOf, runOf}
@@ -28,16 +25,17 @@ RefusedChangesNothing =
     (sheet state memory : List ℕ) (c : Call) → Unchanged state memory (lentReply c) (callOf sheet state memory c)
 
 -- a state that is a valid record beside the sheet
-abbrev pub ValidRecord : List ℕ → List ℕ → Type 0
-ValidRecord sheet state = (lay : Layout) × (st : LinkState) × (verdictOf sheet ≡ Valid lay) × (stateOf state (lay .l) ≡ State st)
+abbrev pub ValidRecord : Sheet → List ℕ → Type 0
+ValidRecord h state = validState h state ≡ true
 
 -- every state that a sequence leaves is one
 abbrev pub EachState : (List ℕ → Type 0) → List Left → Type 0
 EachState P [] = Unit {0}
 EachState P (l ∷ ls) = P (l .state) × EachState P ls
 
--- after a reset that answered 0, every later state of a run is a valid record, whatever the state held before and whatever memory is lent
-abbrev pub StatesStayValid : Type 0
-StatesStayValid =
-    (sheet state memory : List ℕ) → resetOf sheet state .answer .number ≡ 0 → (calls : List Call)
-    → EachState (ValidRecord sheet) (runOf sheet (resetOf sheet state .state) memory calls)
+-- every state of a run from a valid record is a valid record, whatever memory is lent; and a reset that answered 0 leaves one, whatever the state held before
+pub record StatesStayValid : Type 0 where
+  pub from-a-valid-one : (h : Sheet) → WellFormed h → (state memory : List ℕ) → ValidRecord h state → (calls : List Call)
+      → EachState (ValidRecord h) (runOf (sheetOctets h) state memory calls)
+  pub reset-leaves-one : (h : Sheet) → WellFormed h → (state : List ℕ) → resetOf (sheetOctets h) state .answer .number ≡ 0
+      → ValidRecord h (resetOf (sheetOctets h) state .state)

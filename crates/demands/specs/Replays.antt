@@ -11,6 +11,8 @@ use Rattle.link.specs.declared.stored.Stored.the-variants.{State}
 use Rattle.sheet.specs.Walk.{verdictOf}
 use Rattle.sheet.specs.declared.walk.Layout.{Layout}
 use Rattle.sheet.specs.declared.walk.Verdict.the-variants.{Valid}
+use Rattle.law.specs.Words.{Every}
+use Rattle.law.specs.Sheet.{Sheet, WellFormed, IsOctet, sheetOctets}
 use Rattle.slave.specs.Answers.{told}
 use Rattle.slave.specs.Exchange.{Left, exchangeOf}
 use Rattle.slave.specs.Wanted.{differsAt}
@@ -167,20 +169,19 @@ pub record SameReplay (sheet state m₁ m₂ : List ℕ) (l k : ℕ) (ts : List 
 -- demand 3 of the replay, on memories that differ only in octets without the read right
 abbrev pub SecretsInReplay : Type 0
 SecretsInReplay =
-    (sheet : List ℕ) (lay : Layout) → verdictOf sheet ≡ Valid lay
-    → (state m₁ m₂ : List ℕ) → DifferOnlyHidden sheet lay m₁ m₂ → (l k : ℕ) (ts : List Traced) → RepliesOf l ts → SameReplay sheet state m₁ m₂ l k ts
+    (h : Sheet) → WellFormed h → (state m₁ m₂ : List ℕ) → DifferOnlyHidden h m₁ m₂ → (l k : ℕ) (ts : List Traced) → RepliesOf l ts
+    → SameReplay (sheetOctets h) state m₁ m₂ l k ts
 
 -- demand 3 of the whole replay, refusals and all, for any state and any octets as a trace
 abbrev pub SecretsInWholeReplay : Type 0
 SecretsInWholeReplay =
-    (sheet : List ℕ) (lay : Layout) → verdictOf sheet ≡ Valid lay
-    → (state m₁ m₂ : List ℕ) → DifferOnlyHidden sheet lay m₁ m₂ → (trace : List ℕ)
-    → Alike m₁ m₂ (replayOf sheet state m₁ trace) (replayOf sheet state m₂ trace)
+    (h : Sheet) → WellFormed h → (state m₁ m₂ : List ℕ) → DifferOnlyHidden h m₁ m₂ → (trace : List ℕ)
+    → Alike m₁ m₂ (replayOf (sheetOctets h) state m₁ trace) (replayOf (sheetOctets h) state m₂ trace)
 
 -- "for demand 3 a write of that record reached nothing": a place that no accepted write of an agreeing record reached holds what it held, whatever the
 -- differing record would have written
 abbrev pub OnlyAgreeingReach : Type 0
 OnlyAgreeingReach =
-    (sheet state memory : List ℕ) (l k : ℕ) (ts : List Traced) → RepliesOf l ts
+    (sheet state memory : List ℕ) (l k : ℕ) (ts : List Traced) → Every IsOctet sheet → RepliesOf l ts
     → (place : ℕ) → (Reached sheet state memory (callsOf (agreeing sheet state memory ts)) place → ⊥)
     → getD (playOf sheet l k state memory ts .memory) place 0 ≡ getD memory place 0

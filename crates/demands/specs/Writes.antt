@@ -1,42 +1,48 @@
 -- What accepted writes reach.
-use Prim.Native.Nat.{ℕ, _+_, _<_}
+use Prim.Native.Nat.{ℕ, zero, suc, _+_, _-_, _≤_, _<_}
 use mathlib.Core.Bool.{true}
 use mathlib.Core.List.{List, [], _∷_}
 use mathlib.Core.Logic.{_⊎_}
 use mathlib.Core.Path.{_≡_}
-use lib.ListN.{length, getD}
-use Rattle.frame.specs.Fields.{commandOf}
-use Rattle.link.specs.declared.state.LinkState.{LinkState}
-use Rattle.regions.specs.Region.{regionsOf}
-use Rattle.regions.specs.Search.{spotOf}
-use Rattle.regions.specs.declared.search.Spot.the-variants.{At}
-use Rattle.sheet.specs.declared.walk.Layout.{Layout}
+use lib.ListN.{length, getD, take, drop}
+use Rattle.law.specs.Words.{Every, piece}
+use Rattle.law.specs.Sheet.{Sheet, IsOctet}
+use Rattle.law.specs.State.{link}
+use Rattle.law.specs.Memory.{Cell, cells, writable, hasAll}
+use Rattle.law.specs.Exchange.{fateOf}
 use Rattle.slave.specs.Exchange.{exchangeOf}
-use Rattle.demands.specs.Accepted.{Octets, rowOf, acceptedOf}
+use Rattle.demands.specs.Accepted.{accepted}
 use Rattle.demands.specs.Answered.{Answered}
 use Rattle.demands.specs.Sequences.{Call, Reset, Enable, Exchange, callOf}
 
--- an exchange's accepted write has a memory place in its span, and the command's octet for it is octet k
+-- the cell of a place of the memory; past the end, one without a right
+abbrev pub cellAt : List Cell → ℕ → Cell
+cellAt [] place = record { address = 0; rights = 0 }
+cellAt (x ∷ xs) zero = x
+cellAt (x ∷ xs) (suc place) = cellAt xs place
+
+-- an exchange's accepted write stores n octets from an address on, the command's own from an octet on, all of which the link may write; a memory place has
+-- one of these addresses, and k is the command's octet for it
 pub record Wrote (sheet state memory command reply : List ℕ) (place k : ℕ) : Type 0 where
-  pub lay : Layout
-  pub st : LinkState
-  pub answered : Answered sheet state memory command reply lay st
-  pub accepted : acceptedOf sheet lay st (commandOf command) ≡ true
+  pub h : Sheet
+  pub answered : Answered h sheet state memory command reply
+  pub accepts : accepted h state memory command ≡ true
   pub address : ℕ
   pub n : ℕ
   pub from : ℕ
-  pub write : rowOf sheet lay (st .link) (commandOf command) .write ≡ Octets address n from
-  pub j : ℕ
-  pub inside : j < n
-  pub rights : ℕ
-  pub stands : spotOf (regionsOf sheet (lay .regions)) 0 (address + j) ≡ At place rights
-  pub octet : k ≡ from + j
+  pub stores : fateOf h state memory command .memory ≡ piece address (take n (drop from command)) ∷ []
+  pub fits : from + n ≤ length command
+  pub right : hasAll (writable (link state)) (cells (h .regions)) address n ≡ true
+  pub inside : place < length memory
+  pub above : address ≤ cellAt (cells (h .regions)) place .address
+  pub below : cellAt (cells (h .regions)) place .address < address + n
+  pub octet : k ≡ from + (cellAt (cells (h .regions)) place .address - address)
 
 -- "A write stores its own octets and no others": after any exchange, whatever is lent, a memory octet is the command's octet where an accepted
 -- write's span has it, and its old value elsewhere
 abbrev pub WritesOwnOctets : Type 0
 WritesOwnOctets =
-    (sheet state memory command reply : List ℕ) (place : ℕ)
+    (sheet state memory command reply : List ℕ) (place : ℕ) → Every IsOctet sheet
     → ((k : ℕ) → Wrote sheet state memory command reply place k
     → getD (exchangeOf sheet state memory command reply .memory) place 0 ≡ getD command k 0)
     × (((k : ℕ) → Wrote sheet state memory command reply place k → ⊥)

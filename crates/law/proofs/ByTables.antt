@@ -110,7 +110,7 @@ enables-bad : (sheet s : List ℕ) (f : Fault) (place : ℕ) → verdictOf sheet
 unfolding enableOf sheetAnswer
 enables-bad sheet s f place e = ap leavesState (on-faulty _ f place _ _ e) ∙ ap (λ (v : Verdict). result (sheetAnswer v .number) (sheetAnswer v .place) s [] []) e
 
-exchanges-bad : (sheet s m c r : List ℕ) (f : Fault) (place : ℕ) → verdictOf sheet ≡ Faulty f place → leaves (exchangeOf sheet s m c r) ≡ result (numberOf f) place s m r
+pub exchanges-bad : (sheet s m c r : List ℕ) (f : Fault) (place : ℕ) → verdictOf sheet ≡ Faulty f place → leaves (exchangeOf sheet s m c r) ≡ result (numberOf f) place s m r
 unfolding exchangeOf sheetAnswer
 exchanges-bad sheet s m c r f place e = ap leaves (on-faulty _ f place _ _ e) ∙ ap (λ (v : Verdict). result (sheetAnswer v .number) (sheetAnswer v .place) s m r) e
 

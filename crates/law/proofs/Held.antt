@@ -31,7 +31,7 @@ use Rattle.law.proofs.Spans.{inside}
 use Rattle.law.proofs.Layouts.{asRegion}
 
 -- the address of the i-th cell
-abbrev addressOf : List Cell → ℕ → ℕ
+abbrev pub addressOf : List Cell → ℕ → ℕ
 addressOf [] i = 0
 addressOf (x ∷ xs) zero = x .address
 addressOf (x ∷ xs) (suc i) = addressOf xs i
@@ -172,7 +172,7 @@ stored-length ps [] (y ∷ ys) e = absurd (let w : ⊥ = omega arith in w)
 stored-length ps (x ∷ xs) [] e = refl
 stored-length ps (x ∷ xs) (y ∷ ys) e = ap suc (stored-length ps xs ys (omega arith))
 
-stored-at : (ps : List Piece) (cs : List Cell) (m : List ℕ) (i : ℕ) → length m ≡ length cs → i < length m → getD (stored ps cs m) i 0 ≡ laid ps (addressOf cs i) (getD m i 0)
+pub stored-at : (ps : List Piece) (cs : List Cell) (m : List ℕ) (i : ℕ) → length m ≡ length cs → i < length m → getD (stored ps cs m) i 0 ≡ laid ps (addressOf cs i) (getD m i 0)
 unfolding stored
 stored-at ps [] [] i e l = absurd (let w : ⊥ = omega arith in w)
 stored-at ps [] (y ∷ ys) i e l = absurd (let w : ⊥ = omega arith in w)

@@ -11,7 +11,7 @@ use lib.ListN.{length, getD}
 use lib.Seq.{ext-getD}
 use Rattle.octets.specs.Parts.{putAt}
 use Rattle.octets.proofs.Cases.{lt-or-le}
-use Rattle.law.specs.Words.{when, Piece, laid, overFrom, over}
+use Rattle.law.specs.Words.{Every, when, Piece, laid, overFrom, over}
 use Rattle.law.specs.Memory.{Cell, stored}
 use Rattle.octets.proofs.Overlaid.{put-length, put-before, put-inside, put-behind}
 
@@ -89,3 +89,22 @@ stored-none [] [] e = refl
 stored-none [] (x ∷ xs) e = absurd (let w : ⊥ = omega arith in w)
 stored-none (c ∷ cs) [] e = refl
 stored-none (c ∷ cs) (x ∷ xs) e = ap (λ (l : List ℕ). x ∷ l) (stored-none cs xs (omega arith))
+
+-- pieces over octets, octet by octet
+pub over-length : (k : ℕ) (ps : List Piece) (d : List ℕ) → length (overFrom k ps d) ≡ length d
+unfolding overFrom
+over-length k ps [] = refl
+over-length k ps (x ∷ xs) = ap suc (over-length (suc k) ps xs)
+
+pub over-at : (k : ℕ) (ps : List Piece) (d : List ℕ) (i : ℕ) → i < length d → getD (overFrom k ps d) i 0 ≡ laid ps (k + i) (getD d i 0)
+unfolding overFrom
+over-at k ps [] i h = absurd (let w : ⊥ = omega arith in w)
+over-at k ps (x ∷ xs) zero h = ap (λ (n : ℕ). laid ps n x) (let e : k ≡ k + 0 = omega arith in e)
+over-at k ps (x ∷ xs) (suc i) h =
+    over-at (suc k) ps xs i (omega arith) ∙ ap (λ (n : ℕ). laid ps n (getD xs i 0)) (let e : suc k + i ≡ k + suc i = omega arith in e)
+
+-- pieces that all stand further on
+pub laid-before : (ps : List Piece) (k old : ℕ) → Every (λ (p : Piece). k < p .first) ps → laid ps k old ≡ old
+unfolding laid
+laid-before [] k old all = refl
+laid-before (p ∷ ps) k old all = ap (laid ps k) (lies-below p k old (all .0)) ∙ laid-before ps k old (all .1)

@@ -40,13 +40,16 @@ judged s code (r ∷ rs) = when (eqb code (r .code)) (checked s (check (oneOf (l
 
 -- "1. Link 3 with MN known: MN must be last MN plus 1, modulo 16. If not, nothing is executed, the body is zero, the communication latch becomes 12, the
 -- command alarm is 0, the link becomes 2."
+abbrev pub lost : Fate
+lost = fate 0 (piece 1 (2 ∷ []) ∷ piece 9 (12 ∷ []) ∷ []) [] []
+
 abbrev pub missed : List ℕ → List ℕ → Bool
 missed s c = eqb (link s) 3 && (eqb (mnKnown s) 1 && not (eqb (mn c) ((lastMn s + 1) % 16)))
 
 unfoldable pub fateOf : Sheet → List ℕ → List ℕ → List ℕ → Fate
 fateOf h s m c =
     when (missed s c)
-    (fate 0 (piece 1 (2 ∷ []) ∷ piece 9 (12 ∷ []) ∷ []) [] [])
+    lost
     (judged s (octet c 0) (table h s m c))
 
 -- "An exchange that begins and ends in link 3 stores MN as known and adds 1 to RSN modulo 16, refused or not. .. On entry to link 3 MN is not known and

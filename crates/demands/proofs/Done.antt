@@ -1,0 +1,131 @@
+-- An answered exchange is the law's, and what a host reads in what it leaves.
+--     answered-done                               what is left, by the law
+--     seen-whole, seen-code, seen-alarm           the reply's length, code and alarm
+--     seen-zero                                   without a body all octets from 4 on are 0
+--     seen-link                                   the link afterwards is what the command made of it
+use mathlib.Core.Bool.{Bool, true, false, _&&_}
+use mathlib.Core.Logic.{⊎-elim}
+use mathlib.Core.Path.{_≡_, sym, ap, _∙_}
+use mathlib.Core.List.{List, [], _∷_}
+use Prim.Native.Nat.{ℕ, _+_, _*_, _%_, _≤_, _<_}
+use native.Mathlib.Omega.{arith}
+use lib.Dec.{eqb}
+use lib.ListN.{length, getD, replicate, length-replicate, getD-replicate, List·getD-eq-default}
+use Rattle.octets.proofs.Cases.{lt-or-le}
+use Rattle.link.specs.Stored.{fieldsOf}
+use Rattle.slave.specs.Answers.{told}
+use Rattle.slave.specs.Exchange.{left, exchanged, exchangeOf}
+use Rattle.replay.proofs.Steps.{is-exchanged}
+use Rattle.law.specs.Words.{Every, when, octet, Piece, piece, laid, over}
+use Rattle.law.specs.Sheet.{Sheet, FiveLengths, sheetOctets}
+use Rattle.law.specs.State.{link, rsn, commandLatch, communicationLatch}
+use Rattle.law.specs.Exchange.{Fate, mn, fateOf, watched, stateAfter, replyFor}
+use Rattle.law.specs.Calls.{Result, done}
+use Rattle.law.proofs.Calls.{leaves, done-same}
+use Rattle.law.proofs.Clauses.{state-yes}
+use Rattle.law.proofs.Complete.{complete}
+use Rattle.law.proofs.Laid.{over-length, over-at, laid-before, lies-past}
+use Rattle.law.proofs.Layouts.{layoutFor}
+use Rattle.demands.specs.Answered.{Answered, alarmIn}
+use Rattle.demands.proofs.Fates.{fate-body, fate-small}
+
+pub least-length : (l : ℕ) → FiveLengths l → 8 ≤ l
+least-length l five =
+    ⊎-elim (λ (e : l ≡ 8). let w : 8 ≤ l = omega arith in w) (⊎-elim (λ (e : l ≡ 16). let w : 8 ≤ l = omega arith in w) (⊎-elim (λ (e : l ≡ 32). let w : 8 ≤ l = omega arith in w)
+    (⊎-elim (λ (e : l ≡ 48). let w : 8 ≤ l = omega arith in w) (λ (e : l ≡ 64). let w : 8 ≤ l = omega arith in w)))) five
+
+-- what the law leaves of an exchange that nothing refuses
+abbrev pub lawful : Sheet → List ℕ → List ℕ → List ℕ → Result
+lawful h s m c = done h s m c (fateOf h s m c)
+
+pub answered-done : (h : Sheet) (sheet s m c r : List ℕ) → Answered h sheet s m c r
+    → exchangeOf sheet s m c r ≡ left (told 0 0) (lawful h s m c .state) (lawful h s m c .memory) (lawful h s m c .reply)
+unfolding fieldsOf exchanged
+answered-done h sheet s m c r a =
+    let q = state-yes h s (a .valid) in
+    let st = fieldsOf s in
+    let e : leaves (exchanged (sheetOctets h) (layoutFor h) st m c) ≡ lawful h s m c =
+    done-same h (a .good) st (q .2) m c (a .whole) (a .asked) (a .enabled) ∙ ap (λ (x : List ℕ). lawful h x m c) (sym (q .1)) in
+    ap (λ (x : List ℕ). exchangeOf x s m c r) (a .written)
+    ∙ is-exchanged (sheetOctets h) s m c r (layoutFor h) (complete h (a .good)) st (q .0) (a .whole) (a .asked) (a .lent) (a .enabled)
+    ∙ (λ i. left (told 0 0) (ap (λ (x : Result). x .state) e i) (ap (λ (x : Result). x .memory) e i) (ap (λ (x : Result). x .reply) e i))
+
+module _ (h : Sheet) (s m c : List ℕ) (long : 8 ≤ h .l) where
+  abbrev f : Fate
+  f = fateOf h s m c
+
+  abbrev t : List ℕ
+  t = lawful h s m c .state
+
+  -- the four octets of the head
+  abbrev head : List ℕ
+  head =
+      octet c 0
+      ∷ when (eqb (link t) 3) (16 * rsn t + mn c) 0
+      ∷ (4 + when (eqb (commandLatch t) 0 && eqb (communicationLatch t) 0) 0 1)
+      ∷ (f .alarm + 16 * communicationLatch t)
+      ∷ []
+
+  zeros : length {A = ℕ} (replicate (h .l) 0) ≡ h .l
+  zeros = length-replicate {A = ℕ} (h .l) 0
+
+  pub seen-whole : length (lawful h s m c .reply) ≡ h .l
+  unfolding replyFor
+  seen-whole = over-length 0 (piece 0 head ∷ f .body) (replicate (h .l) 0) ∙ zeros
+
+  all-further : (k : ℕ) → k < 4 → (ps : List Piece) → Every (λ (p : Piece). 4 ≤ p .first) ps → Every (λ (p : Piece). k < p .first) ps
+  all-further k l [] all = tt
+  all-further k l (p ∷ ps) all = (let z : k < p .first = omega (arith, all .0) in z, all-further k l ps (all .1))
+
+  -- octet k of the reply, before the body
+  seen-head : (k : ℕ) → k < 4 → getD (lawful h s m c .reply) k 0 ≡ laid (piece 0 head ∷ []) k 0
+  unfolding replyFor laid
+  seen-head k l =
+      let z = zeros in
+      over-at 0 (piece 0 head ∷ f .body) (replicate (h .l) 0) k (omega arith)
+      ∙ ap (λ (i : ℕ). laid (piece 0 head ∷ f .body) i (getD (replicate (h .l) 0) k 0)) (let e : 0 + k ≡ k = omega arith in e)
+      ∙ ap (laid (piece 0 head ∷ f .body) k) (getD-replicate (h .l) k 0 0 (omega arith))
+      ∙ laid-before (f .body) k _ (all-further k l (f .body) (fate-body h s m c))
+
+  pub seen-code : getD (lawful h s m c .reply) 0 0 ≡ octet c 0
+  unfolding laid when
+  seen-code = seen-head 0 (omega arith)
+
+  pub seen-alarm : alarmIn (lawful h s m c .reply) ≡ f .alarm
+  unfolding laid when
+  seen-alarm =
+      let u = fate-small h s m c in
+      ap (λ (x : ℕ). x % 16) (seen-head 3 (omega arith)) ∙ (let e : (f .alarm + 16 * communicationLatch t) % 16 ≡ f .alarm = omega arith in e)
+
+  pub seen-zero : f .body ≡ [] → (k : ℕ) → 4 ≤ k → getD (lawful h s m c .reply) k 0 ≡ 0
+  unfolding replyFor laid
+  seen-zero none k l =
+      let z = zeros in
+      let w = seen-whole in
+      ⊎-elim
+      (λ (u : k < h .l).
+      over-at 0 (piece 0 head ∷ f .body) (replicate (h .l) 0) k (omega arith)
+      ∙ ap (λ (i : ℕ). laid (piece 0 head ∷ f .body) i (getD (replicate (h .l) 0) k 0)) (let e : 0 + k ≡ k = omega arith in e)
+      ∙ ap (laid (piece 0 head ∷ f .body) k) (getD-replicate (h .l) k 0 0 u)
+      ∙ ap (λ (ps : List Piece). laid (piece 0 head ∷ ps) k 0) none
+      ∙ lies-past (piece 0 head) k 0 l)
+      (λ (u : h .l ≤ k). List·getD-eq-default (lawful h s m c .reply) 0 {n = k} (omega arith))
+      (lt-or-le k (h .l))
+
+  -- the watchdog's fields stand behind the link
+  watched-further : (begins ends : ℕ) (b d : Bool) (x y : ℕ)
+      → Every (λ (p : Piece). 1 < p .first) (when b (when d (piece 5 (1 ∷ x ∷ y ∷ []) ∷ []) (piece 3 (0 ∷ []) ∷ piece 5 (0 ∷ 0 ∷ 0 ∷ []) ∷ [])) (when d (piece 5 (0 ∷ 0 ∷ 0 ∷ []) ∷ []) []))
+  unfolding when
+  watched-further begins ends true true x y = (omega arith, tt)
+  watched-further begins ends true false x y = (omega arith, (omega arith, tt))
+  watched-further begins ends false true x y = (omega arith, tt)
+  watched-further begins ends false false x y = tt
+
+  pub seen-link : 2 ≤ length s → link t ≡ laid (f .state) 1 (link s)
+  unfolding stateAfter watched
+  seen-link two =
+      let o = over (f .state) s in
+      let n = over-length 0 (f .state) s in
+      over-at 0 (watched (link s) (link o) s (mn c)) o 1 (omega arith)
+      ∙ laid-before (watched (link s) (link o) s (mn c)) 1 (getD o 1 0) (watched-further (link s) (link o) (eqb (link s) 3) (eqb (link o) 3) (mn c) ((rsn s + 1) % 16))
+      ∙ over-at 0 (f .state) s 1 (omega arith)

@@ -1,0 +1,242 @@
+-- What can become of a command, by the law's table.
+--     judged-by          what every refusal has and every row that is done has, each fate has
+--     fate-by            the same with a lost cycle
+--     fate-refused       a fate without acceptance is a lost cycle or a refusal
+--     accepted-fate      and one with it is the row's
+--     fate-head, fate-silent, fate-stays, fate-small, fate-writes    what bodies, refusals, links, alarms and stored octets have
+use mathlib.Core.Bool.{Bool, true, false, _&&_, _||_}
+use mathlib.Core.Logic.{_⊎_, inl, inr}
+use mathlib.Core.Path.{_≡_, refl, sym, _∙_}
+use mathlib.Core.List.{List, [], _∷_}
+use Prim.Native.Nat.{ℕ, _+_, _-_, _≤_, _<_}
+use native.Mathlib.Omega.{arith}
+use borrow.Author.Tests.{ltb-true, leb-true, eqb-true}
+use lib.Dec.{eqb, leb, ltb}
+use lib.ListN.{take, drop}
+use Rattle.law.specs.Words.{when, Every, oneOf, octet, number, Piece, piece, laid}
+use Rattle.law.specs.Sheet.{Sheet}
+use Rattle.law.specs.State.{link}
+use Rattle.law.specs.Memory.{cells, writable, hasAll}
+use Rattle.law.specs.Table.{Asked, check, Row, table, parameter, n}
+use Rattle.law.specs.Exchange.{Fate, fate, lost, missed, refused, checked, judged, fateOf}
+use Rattle.law.proofs.Laid.{when-yes, when-no}
+
+both : (a b : Bool) → a && b ≡ true → (a ≡ true) × (b ≡ true)
+both true b e = (refl, e)
+both false b e = absurd (let z : _≡_ {A = ℕ} 0 1 = cc in let v : ⊥ = omega arith in v)
+
+when-cases : (P : Fate → Type 0) (b : Bool) {x y : Fate} → (b ≡ true → P x) → (b ≡ false → P y) → P (when b x y)
+unfolding when
+when-cases P true p q = p refl
+when-cases P false p q = q refl
+
+-- a check holds
+abbrev pub Holds : Asked → Type 0
+Holds k = k .holds ≡ true
+
+-- every alarm of the table is named: it is not 0, and fits half an octet
+abbrev namedChecks : List Asked → Bool
+namedChecks [] = true
+namedChecks (k ∷ ks) = (leb 1 (k .alarm) && ltb (k .alarm) 16) && namedChecks ks
+
+abbrev namedRows : List Row → Bool
+namedRows [] = true
+namedRows (r ∷ rs) = namedChecks (r .checks) && namedRows rs
+
+-- the row, done
+abbrev pub doneRow : Row → Fate
+doneRow r = fate 0 (r .state) (r .body) (r .memory)
+
+module _ (s : List ℕ) (P : Fate → Type 0) (not-done : (a : ℕ) → 1 ≤ a → a < 16 → P (refused s a)) where
+  checked-by : (ks : List Asked) (r : Row) → namedChecks ks ≡ true → (Every Holds ks → P (doneRow r)) → P (checked s ks r)
+  unfolding checked
+  checked-by [] r e go = go tt
+  checked-by (k ∷ ks) r e go =
+      let p = both _ _ e in
+      let q = both _ _ (p .0) in
+      when-cases P (k .holds) (λ t. checked-by ks r (p .1) (λ all. go (t, all))) (λ f. not-done (k .alarm) (leb-true 1 (k .alarm) (q .0)) (ltb-true (k .alarm) 16 (q .1)))
+
+  -- each row that is done: its link allows it, and its checks hold
+  abbrev Done : Row → Type 0
+  Done r = oneOf (link s) (r .links) ≡ true → Every Holds (r .checks) → P (doneRow r)
+
+  pub judged-by : (code : ℕ) (rs : List Row) → namedRows rs ≡ true → Every Done rs → P (judged s code rs)
+  unfolding judged
+  judged-by code [] e all = not-done 8 (omega arith) (omega arith)
+  judged-by code (r ∷ rs) e all =
+      let p = both _ _ e in
+      when-cases P (eqb code (r .code))
+      (λ t. checked-by (check (oneOf (link s) (r .links)) 12 0 ∷ r .checks) r (p .0) (λ q. all .0 (q .0) (q .1)))
+      (λ f. judged-by code rs (p .1) (all .1))
+
+module _ (h : Sheet) (s m c : List ℕ) where
+  named : namedRows (table h s m c) ≡ true
+  named = refl
+
+  pub fate-by : (P : Fate → Type 0) → P lost → ((a : ℕ) → 1 ≤ a → a < 16 → P (refused s a))
+      → Every (λ (r : Row). oneOf (link s) (r .links) ≡ true → Every Holds (r .checks) → P (doneRow r)) (table h s m c) → P (fateOf h s m c)
+  unfolding fateOf
+  fate-by P p r all = when-cases P (missed s c) (λ e. p) (λ e. judged-by s P r (octet c 0) (table h s m c) named all)
+
+  abbrev row : Fate
+  row = judged s (octet c 0) (table h s m c)
+
+  -- a judged command is refused, or has no alarm
+  pub row-refused : (row .alarm ≡ 0 → ⊥) → (1 ≤ row .alarm) × (row ≡ refused s (row .alarm))
+  unfolding refused
+  row-refused =
+      judged-by s (λ f. (f .alarm ≡ 0 → ⊥) → (1 ≤ f .alarm) × (f ≡ refused s (f .alarm)))
+      (λ a l u z. (l, refl)) (octet c 0) (table h s m c) named
+      (u, (u, (u, (u, (u, (u, (u, (u, (u, (u, (u, tt)))))))))))
+    where
+      u : {A B C : Type 0} → A → B → (_≡_ {A = ℕ} 0 0 → ⊥) → C
+      u a b z = absurd (z refl)
+
+  pub fate-missed : missed s c ≡ true → fateOf h s m c ≡ lost
+  unfolding fateOf
+  fate-missed e = when-yes _ _ e
+
+  pub fate-kept : missed s c ≡ false → fateOf h s m c ≡ row
+  unfolding fateOf
+  fate-kept e = when-no _ _ e
+
+  -- no body reaches the reply's first four octets
+  pub fate-body : Every (λ (p : Piece). 4 ≤ p .first) (fateOf h s m c .body)
+  unfolding refused
+  fate-body =
+      fate-by (λ f. Every (λ (p : Piece). 4 ≤ p .first) (f .body)) tt (λ a l u. tt) (
+        λ a b. tt,
+        (
+          λ a b. (omega arith, (omega arith, tt)),
+          (
+            λ a b. (omega arith, (omega arith, tt)),
+            (
+              λ a b. (omega arith, (omega arith, tt)),
+              (
+                λ a b. (omega arith, tt),
+                (
+                  λ a b. tt,
+                  (
+                    λ a b. tt,
+                    (
+                      λ a b. (omega arith, tt),
+                      (
+                        λ a b. tt,
+                        (
+                          λ a b. (omega arith, (omega arith, tt)),
+                          (
+                            λ a b. (omega arith, (omega arith, tt)),
+                            tt,
+                          ),
+                        ),
+                      ),
+                    ),
+                  ),
+                ),
+              ),
+            ),
+          ),
+        ),
+      )
+
+  -- every alarm fits half an octet
+  pub fate-small : fateOf h s m c .alarm < 16
+  unfolding refused
+  fate-small =
+      fate-by (λ f. f .alarm < 16) z (λ a l u. u)
+      (λ a b. z, (λ a b. z, (λ a b. z, (λ a b. z, (λ a b. z, (λ a b. z, (λ a b. z, (λ a b. z, (λ a b. z, (λ a b. z, (λ a b. z, tt)))))))))))
+    where
+      z : 0 < 16
+      z = omega arith
+
+  -- what an accepted write stores: the command's own octets, which the link may write
+  pub record Writing (f : Fate) : Type 0 where
+    pub alarm : f .alarm ≡ 0
+    pub address : ℕ
+    pub size : ℕ
+    pub from : ℕ
+    pub stores : f .memory ≡ piece address (take size (drop from c)) ∷ []
+    pub right : hasAll (writable (link s)) (cells (h .regions)) address size ≡ true
+    pub fits : from + size ≤ h .l
+
+  pub fate-writes : 8 ≤ h .l → (fateOf h s m c .memory ≡ []) ⊎ Writing (fateOf h s m c)
+  unfolding refused
+  fate-writes long =
+      fate-by (λ f. (f .memory ≡ []) ⊎ Writing f) (inl refl) (λ a l u. inl refl) (
+        λ a b. inl refl,
+        (
+          λ a b. inl refl,
+          (
+            λ a b. inr (record {
+              alarm = refl;
+              address = parameter h s m c .address;
+              size = parameter h s m c .size;
+              from = 8;
+              stores = refl;
+              right = b .1 .1 .1 .1 .0;
+              fits = (let e = eqb-true (octet c 6) (parameter h s m c .size) (b .1 .0) in let l = leb-true (octet c 6) (h .l - 8) (b .1 .1 .0) in let z : 8 + parameter h s m c .size ≤ h .l = omega arith in z);
+            }),
+            (
+              λ a b. inl refl,
+              (
+                λ a b. inl refl,
+                (
+                  λ a b. inl refl,
+                  (
+                    λ a b. inl refl,
+                    (
+                      λ a b. inl refl,
+                      (
+                        λ a b. inl refl,
+                        (
+                          λ a b. inl refl,
+                          (
+                            λ a b. inr (record {
+                              alarm = refl;
+                              address = number c 8 4;
+                              size = n h s m c;
+                              from = 12;
+                              stores = refl;
+                              right = b .1 .1 .1 .1 .0;
+                              fits = (let e = leb-true 1 (n h s m c) (b .1 .0) in let l = leb-true (n h s m c) (h .l - 12) (b .1 .1 .0) in let z : 12 + n h s m c ≤ h .l = omega arith in z);
+                            }),
+                            tt,
+                          ),
+                        ),
+                      ),
+                    ),
+                  ),
+                ),
+              ),
+            ),
+          ),
+        ),
+      )
+
+  -- a refused command keeps the link
+  latch-stays : (b : Bool) (a x : ℕ) → laid (when b (piece 8 (a ∷ []) ∷ []) []) 1 x ≡ x
+  unfolding when laid
+  latch-stays true a x = refl
+  latch-stays false a x = refl
+
+  -- no command that is judged lets the link fall from 3 to 2
+  pub row-stays : link s ≡ 3 → laid (row .state) 1 (link s) ≡ 2 → ⊥
+  unfolding refused laid when
+  row-stays =
+      judged-by s (λ f. link s ≡ 3 → laid (f .state) 1 (link s) ≡ 2 → ⊥)
+      (λ a l u e q. same e (sym (latch-stays (eqb (octet s 8) 0) a (link s)) ∙ q)) (octet c 0) (table h s m c) named
+      (stay, (stay, (stay, (stay, (stay, (stay, (away 2 (omega arith), (away 1 (omega arith), (λ a b e q. let w : ⊥ = omega arith in w, (stay, (stay, tt)))))))))))
+    where
+      same : link s ≡ 3 → link s ≡ 2 → ⊥
+      same e q = omega arith
+
+      stay : {A B : Type 0} → A → B → link s ≡ 3 → link s ≡ 2 → ⊥
+      stay a b = same
+
+      first : (b : Bool) → b || false ≡ true → b ≡ true
+      first true e = refl
+      first false e = e
+
+      -- SYNC_SET and CONNECT are not allowed in link 3
+      away : {B C : Type 0} (only : ℕ) → only < 3 → oneOf (link s) (only ∷ []) ≡ true → B → link s ≡ 3 → C → ⊥
+      away only l a b e q = let k = eqb-true (link s) only (first (eqb (link s) only) a) in omega arith
