@@ -1,5 +1,5 @@
 # Each target only calls the thing that does the work.
-.PHONY: run test kit measure soak fuzz
+.PHONY: run test kit measure soak fuzz mutants
 
 # The bench program of document 01: proved, run on sheet P and two commands, compared with crates/bench/stdout, and shown.
 run:
@@ -26,3 +26,7 @@ soak:
 # Both engines on octets that a fuzzer makes up, for so many seconds: make fuzz FUZZ_SECONDS=3600
 fuzz:
 	peer/fuzz/run $${FUZZ_SECONDS:-60}
+
+# Wrong rules in code and definition together: the law must refuse each. One of them: tests/mutants/run NAME
+mutants:
+	tests/mutants/run
