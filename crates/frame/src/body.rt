@@ -64,13 +64,13 @@ fn identify(sheet: &[u8], at: usize, n: usize, command: &[u8], reply: &mut [u8])
     enter(reply, 8, sheet, at, n);
 }
 
-// The two latches as they were.
+// The two latches as they were, in the part of the reply that they fill.
 fn tell_alarms(old: u8, fault: u8, reply: &mut [u8])
     requires { ⌜ 10 ≤ length (now reply) ⌝ }
     ensures { λ _. ⌜ now (reply .exit) ≡ putAt (now (reply .entry)) 8 (old ∷ fault ∷ []) ⌝ }
 {
-    reply[8] = old;
-    reply[9] = fault;
+    let told = [old, fault];
+    octets::put(reply, 8, &told);
 }
 
 // The body over a reply that has its head.

@@ -1,7 +1,7 @@
 -- Laws of what a lent part holds.
 --     copied-more                           a copy that has stored i octets, and stores one more
 --     copied-source-end, copied-part-end    a copy that has gone as far as either list goes
---     filled-behind                         a part from a place on, lent and filled, is laid over the whole
+--     filled-part                           a part from a place on, lent and filled whole, is laid over the whole
 --     zero-next, zero-end                   the turns of a search for an octet that is not 0
 use mathlib.Core.Bool.{true, _&&_}
 use mathlib.Core.Path.{_≡_, sym, ap}
@@ -44,12 +44,13 @@ module _ (s : List ℕ) (i : ℕ) where
   unfolding allZero
   zero-end h = rw (drop-of-length-le s h)
 
--- a list whose part from a place on was lent and filled from the front
-pub filled-behind : (d : List ℕ) (at : ℕ) (s : List ℕ) → at + length s ≤ length d
-    → take at d ++ (copied (take (length d - at) (drop at d)) s ++ drop (length d - at) (drop at d)) ≡ putAt d at s
+-- a list whose part, as long as what enters it, was lent and filled
+pub filled-part : (d : List ℕ) (at : ℕ) (s : List ℕ) → at + length s ≤ length d
+    → take at d ++ (copied (take (at + length s - at) (drop at d)) s ++ drop (at + length s - at) (drop at d)) ≡ putAt d at s
 unfolding copied putAt
-filled-behind d at s h =
-    let rest : take (length d - at) (drop at d) ≡ drop at d = take-all (length d - at) (drop at d) (simp length-drop (omega arith)) in
-    let whole : take (length (drop at d)) s ≡ s = take-all (length (drop at d)) s (simp length-drop (omega arith)) in
-    let none : drop (length d - at) (drop at d) ≡ [] = drop-of-length-le (drop at d) {i = length d - at} (simp length-drop (omega arith)) in
-    rw (rest, whole, none, drop-drop (length s) at d) (ap (λ (l : List ℕ). take at d ++ l) (append-nil _))
+filled-part d at s h =
+    let n : at + length s - at ≡ length s = omega arith in
+    let long : length (take (length s) (drop at d)) ≡ length s = length-take-le (length s) (drop at d) (simp length-drop (omega arith)) in
+    let whole : take (length (take (length s) (drop at d))) s ≡ s = take-all (length (take (length s) (drop at d))) s (omega arith) in
+    let none : drop (length s) (take (length s) (drop at d)) ≡ [] = drop-of-length-le (take (length s) (drop at d)) {i = length s} (omega arith) in
+    rw (n, whole, none, drop-drop (length s) at d) (ap (λ (l : List ℕ). take at d ++ (l ++ drop (at + length s) d)) (append-nil s))

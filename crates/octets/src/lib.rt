@@ -90,10 +90,11 @@ pub fn copy(d: &mut [u8], s: &[u8])
     }
 }
 
-// The octets of `s` enter `d` at `at`: the part from there on is lent to be filled, and nothing before or after is touched.
+// The octets of `s` enter `d` at `at`: just the part that they fill is lent, from its first octet to its last, and nothing before or after is touched.
 pub fn put(d: &mut [u8], at: usize, s: &[u8])
     requires { ⌜ at + length (now s) ≤ length (now d) ⌝ }
     ensures { λ _. ⌜ now (d .exit) ≡ putAt (now (d .entry)) at (now (s .entry)) ⌝ }
 {
-    copy(&mut d[at..], s);
+    let to = at + s.len();
+    copy(&mut d[at..to], s);
 }

@@ -1,9 +1,10 @@
 -- The search of a span over regions that are ordered and apart: what stands behind it at an address and a region.
 --     passing-first    it begins behind the regions that end at or before the span
 --     passing-jump     a region that has the octet and gives the right is passed to its end
+--     passing-next     or by one octet, and the search goes on from that region
 --     passing-on       a region that has the octet not is passed
 --     passing-ends     where it comes to the span's end, no octet lacks the right
---     passing-stops    where it stops before, as many octets come before as were passed
+--     passing-lacks    where it stops before, as many octets come before as were passed
 --     passing-later    where only regions are asked for, one that starts at or before the octet is passed to its end if that is later
 --     passing-gap      no region from one that starts behind the octet on has it
 --     passing-whole, passing-short   whether the span lies wholly in regions: where its end is reached, and where the octet has none
@@ -56,6 +57,23 @@ module _ (f : ℕ → Region) (n : ℕ) (w : Right) (a : ℕ) where
         decides = p .decides ∙ grants-past f i n r e h w to t;
       }
 
+      pub passing-next : Apart 0 (listed f 0 n) → holdsOf r to ≡ true → givesOf (r .rights) w ≡ true → Passing f n w a (to + 1) i
+      passing-next d t g = record {
+        from = let l = p .from in omega arith;
+        within = p .within;
+        granted = λ x l u.
+            ⊎-elim
+            (λ (k : x < to). p .granted x l k)
+            (λ (k : to ≤ x).
+            subst (λ (y : ℕ). grantsOf (listed f 0 n) w y ≡ true) (let q : to ≡ x = omega arith in q) (p .decides ∙ grants-here f i n r e h w to t ∙ g))
+            (lt-or-le x to);
+        decides = grants-from f n i (p .within) w (to + 1)
+            (λ j l.
+            let s = subst (λ (q : Region). q .start ≤ to) e (holds-bounds r to t .0) in
+            let u = apart-rises f 0 n 0 d j i (omega arith) l (omega arith) in
+            omega arith);
+      }
+
       pub passing-jump : Apart 0 (listed f 0 n) → holdsOf r to ≡ true → givesOf (r .rights) w ≡ true → Passing f n w a (r .start + r .length) (i + 1)
       passing-jump d t g = record {
         from = let b = holds-bounds r to t in omega (arith, p .from);
@@ -89,18 +107,15 @@ module _ (f : ℕ → Region) (n : ℕ) (w : Right) (a : ℕ) where
               (eq-or-ne j i)
 
     module _ (size : ℕ) where
-      pub passing-ends : a + size ≤ to → pick (ltb to (a + size)) (to - a) size ≡ beforeOf (listed f 0 n) w a size
-      passing-ends h = pick-ge _ _ h ∙ sym (before-all (listed f 0 n) w a size (λ x l u. p .granted x l (omega arith)))
-
-      pub passing-stops : to < a + size → grantsOf (listed f i (n - i)) w to ≡ false
-          → pick (ltb to (a + size)) (to - a) size ≡ beforeOf (listed f 0 n) w a size
-      passing-stops h lacks =
+      pub passing-lacks : to < a + size → grantsOf (listed f i (n - i)) w to ≡ false → to - a ≡ beforeOf (listed f 0 n) w a size
+      passing-lacks h lacks =
           let l = p .from in
           let e : to ≡ a + (to - a) = omega arith in
-          pick-lt _ _ h
-          ∙ sym
-          (before-at (listed f 0 n) w a size (to - a) (omega arith) (λ x k u. p .granted x k (omega arith))
+          sym (before-at (listed f 0 n) w a size (to - a) (omega arith) (λ x k u. p .granted x k (omega arith))
           (ap (grantsOf (listed f 0 n) w) (sym e) ∙ p .decides ∙ lacks))
+
+      pub passing-ends : a + size ≤ to → size ≡ beforeOf (listed f 0 n) w a size
+      passing-ends h = sym (before-all (listed f 0 n) w a size (λ x l u. p .granted x l (omega arith)))
 
       pub passing-whole : a + size ≤ to → leb (a + size) to ≡ spanHas (listed f 0 n) w a size
       passing-whole h = le-leb (a + size) to h ∙ sym (eq-eqb _ size (before-all (listed f 0 n) w a size (λ x l u. p .granted x l (omega arith))))
@@ -110,7 +125,7 @@ module _ (f : ℕ → Region) (n : ℕ) (w : Right) (a : ℕ) where
           ⊎-elim
           (λ (h : to < a + size).
           let l = p .from in
-          let b = sym (passing-stops h lacks) ∙ pick-lt _ _ h in
+          let b = passing-lacks h lacks in
           lt-leb (a + size) to h ∙ sym (ne-eqb _ size (λ e. let z : ⊥ = omega arith in z)))
           (λ (h : a + size ≤ to). passing-whole h)
           (lt-or-le to (a + size))

@@ -1,7 +1,6 @@
 // What is found in the regions of a sheet.
 use crate::Right;
 ghost use mathlib.Core.Path.{_≡_};
-ghost use Prim.Native.Nat.{_+_, _-_};
 ghost use lib.Dec.{ltb};
 ghost use Rattle.octets.specs.Pick.{pick};
 ghost use Rattle.regions.specs.Apart.{Laid};
@@ -82,43 +81,29 @@ pub fn covers(sheet: &[u8], regions: u8, address: u32, size: u8) -> bool
     end <= to
 }
 
-// How many of a span's octets stand before an address.
-fn short_of(to: u64, address: u32, size: u8) -> u8
-    ensures { λ r. ⌜ r ≡ pick (ltb to (address + size)) (to - address) size ⌝ }
-{
-    if to < address as u64 {
-        return 0;
-    }
-    if to < address as u64 + size as u64 {
-        return (to - address as u64) as u8;
-    }
-    size
-}
-
-// How many octets of a span come before the first that lacks the right: octets outside, regions inside. What a region has of the span is passed at
-// once, and over regions that are apart the search never goes back.
+// How many octets of a span come before the first that lacks the right: octets outside, one at a time, regions inside, left by the label. Regions rise,
+// so the search for an octet goes on from the region where the last one was found.
 pub fn before(sheet: &[u8], regions: u8, right: Right, address: u32, size: u8) -> u8
     requires { ⌜ Laid (now sheet) regions ⌝ }
     ensures { λ r. ⌜ r ≡ beforeOf (regionsOf (now (sheet .entry)) regions) right address size ⌝ }
 {
-    let end = address as u64 + size as u64;
-    let mut to = address as u64;
-    let mut i = passed(sheet, regions, to);
-    'octets: while to < end {
+    let mut i = passed(sheet, regions, address as u64);
+    let mut n: u8 = 0;
+    'octets: while n < size {
         while i < regions {
             let region = crate::region_in(sheet, 4 + 10 * (i as usize));
-            i += 1;
-            if crate::holds(region, to) {
+            if crate::holds(region, address as u64 + n as u64) {
                 if crate::gives(region.rights, right) {
-                    to = region.start as u64 + region.length as u64;
+                    n += 1;
                     continue 'octets;
                 }
                 break 'octets;
             }
+            i += 1;
         }
         break 'octets;
     }
-    short_of(to, address, size)
+    n
 }
 
 // Whether every octet of a span has the right.
