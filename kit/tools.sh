@@ -1,4 +1,4 @@
-# Sourced by build and test-kit: which tools make and run x86-64 programs here.
+# Sourced by build and test-kit, peer/figures/run and tests/programs/run: which tools make and run x86-64 programs on this machine.
 # shellcheck shell=sh disable=SC2034
 
 if [ "$(uname -m)" = x86_64 ]; then
@@ -33,13 +33,16 @@ need() {
 }
 
 need_compilers() {
-    if [ "$NATIVE" = yes ]; then
-        need "$CC" "$CXX" "$NM"
-    else
-        need "$CC" "$CXX" "$NM" qemu-x86_64
-        # The C library beside the cross compiler, not one of another version.
-        LIBS=$(dirname "$("$CC" -print-file-name=libc.so.6)")
-    fi
+    need "$CC" "$CXX" "$NM"
+    need_emulator
+}
+
+# What `run` needs: nothing on x86-64.
+need_emulator() {
+    [ "$NATIVE" = no ] || return 0
+    need "$CC" qemu-x86_64
+    # The C library beside the cross compiler, not one of another version.
+    LIBS=$(dirname "$("$CC" -print-file-name=libc.so.6)")
 }
 
 # Checkers run on the processor at hand, whatever the kit's own is.
@@ -48,11 +51,13 @@ need_checkers() {
     need gcc valgrind
 }
 
-# run PROGRAM ARGUMENT...: natively, or emulated with the cross C library.
+# run PROGRAM ARGUMENT...: natively, or emulated with the cross C library; by the words in AS_NOBODY, if there are any.
+AS_NOBODY=
 run() {
+    # shellcheck disable=SC2086 # several words, or none
     if [ "$NATIVE" = yes ]; then
-        "$@"
+        $AS_NOBODY "$@"
     else
-        qemu-x86_64 -L "$LIBS/.." -E "LD_LIBRARY_PATH=$LIBS" "$@"
+        $AS_NOBODY qemu-x86_64 -L "$LIBS/.." -E "LD_LIBRARY_PATH=$LIBS" "$@"
     fi
 }
