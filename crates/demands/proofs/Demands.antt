@@ -22,6 +22,7 @@ use Rattle.demands.proofs.Unique.{one-answers}
 
 pub first-demand : FirstDemand
 first-demand = record {
+  which-number-and-place = by-tables;
   a-refused-call-changes-nothing = refused-changes-nothing;
   a-command-refused-on-the-wire = refused-on-the-wire;
   states-stay-valid = states-stay-valid;

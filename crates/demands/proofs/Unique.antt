@@ -2,6 +2,9 @@
 use mathlib.Core.Path.{_≡_, sym, ap, _∙_}
 use Prim.Native.Nat.{ℕ}
 use mathlib.Core.List.{List}
+use Rattle.slave.specs.Wanted.{Stepped, stepped, Performed, performed}
+use Rattle.replay.specs.Replay.{Replayed, replayed}
+use Rattle.replay.specs.declared.told.Told.{Told}
 use Rattle.slave.specs.Calls.{After, after}
 use Rattle.slave.specs.Exchange.{Left, left}
 use Rattle.type24.specs.Packed.{PackedAfter, packedAfter, PackedLeft, packedLeft, PackedReplay, packedReplay}
@@ -43,8 +46,29 @@ of-packed-replay defined r q s t m n a b =
     let e = one-answer PackedReplay (packedReplay r s m) (packedReplay q t n) defined a b in
     (ap (λ (x : PackedReplay). x .answer) e, ap (λ (x : PackedReplay). x .state) e, ap (λ (x : PackedReplay). x .memory) e)
 
+of-performed : (defined : Performed) (d e : ℕ) (s t m n o p : List ℕ) → performed (stepped d s m) o ≡ defined → performed (stepped e t n) p ≡ defined
+    → (d ≡ e) × (s ≡ t) × (m ≡ n) × (o ≡ p)
+of-performed defined d e s t m n o p a b =
+    let q = one-answer Performed (performed (stepped d s m) o) (performed (stepped e t n) p) defined a b in (
+      ap (λ (x : Performed). x .step .at) q,
+      ap (λ (x : Performed). x .step .state) q,
+      ap (λ (x : Performed). x .step .memory) q,
+      ap (λ (x : Performed). x .reply) q,
+    )
+
+of-stepped : (defined : Stepped) (d e : ℕ) (s t m n : List ℕ) → stepped d s m ≡ defined → stepped e t n ≡ defined → (d ≡ e) × (s ≡ t) × (m ≡ n)
+of-stepped defined d e s t m n a b =
+    let q = one-answer Stepped (stepped d s m) (stepped e t n) defined a b in
+    (ap (λ (x : Stepped). x .at) q, ap (λ (x : Stepped). x .state) q, ap (λ (x : Stepped). x .memory) q)
+
+of-replayed : (defined : Replayed) (r q : Told) (s t m n : List ℕ) → replayed r s m ≡ defined → replayed q t n ≡ defined → (r ≡ q) × (s ≡ t) × (m ≡ n)
+of-replayed defined r q s t m n a b =
+    let e = one-answer Replayed (replayed r s m) (replayed q t n) defined a b in
+    (ap (λ (x : Replayed). x .answer) e, ap (λ (x : Replayed). x .state) e, ap (λ (x : Replayed). x .memory) e)
+
 pub one-answers : OneAnswers
 one-answers = record {
+  of-every-promise = one-answer;
   t24-sheet = λ sheet r q a b. one-answer ℕ r q _ a b;
   t24-lengths = λ sheet r q a b. one-answer ℕ r q _ a b;
   t24-reset = λ sheet state r q s t a b. of-packed-after _ r q s t a b;
@@ -54,4 +78,7 @@ one-answers = record {
   slave-reset = λ sheet state r q s t a b. of-after _ r q s t a b;
   slave-enable = λ sheet state r q s t a b. of-after _ r q s t a b;
   slave-exchange = λ sheet state memory command reply r q s t m n o p a b. of-left _ r q s t m n o p a b;
+  slave-perform = λ sheet lay st state memory command wanted d e s t m n o p a b. of-performed _ d e s t m n o p a b;
+  replay-step = λ l state memory wanted x d e s t m n a b. of-stepped _ d e s t m n a b;
+  replay-replay = λ sheet state memory trace r q s t m n a b. of-replayed _ r q s t m n a b;
 }

@@ -18,8 +18,10 @@ use Rattle.demands.specs.Writes.{WritesOwnOctets, MemoryKeepsItsLength}
 
 -- "1. Each call answers on every input. .. A refused call gives its number and, for the sheet, the place; state, memory and reply then hold what they
 -- held before. A command refused on the wire builds a whole reply, updates the state and stores nothing." That each call answers is the promise of each
--- function, which has no premise; the rest is here, and that a valid state record stays one.
+-- function, which has no premise; which input gets which number and place, call by call, is the law's (`ByTables`); the rest is here, and that a valid
+-- state record stays one.
 pub record FirstDemand : Type 0 where
+  pub which-number-and-place : ByTables
   pub a-refused-call-changes-nothing : RefusedChangesNothing
   pub a-command-refused-on-the-wire : RefusedOnTheWire
   pub states-stay-valid : StatesStayValid
@@ -27,7 +29,7 @@ pub record FirstDemand : Type 0 where
 -- "2. A command is accepted exactly when document 01 accepts it: state, format, span, rights. Reply, next state and memory are the defined ones to the
 -- octet, over every sequence of calls. A write stores its own octets and no others." The defined ones are those of the law, crates/law/specs, which is
 -- document 01 as tables; what stands below `by-tables` says some of it once more, by what a host sees.
-pub record SecondDemand : Type 0 where
+pub record SecondDemand : Type 1 where
   pub by-tables : ByTables
   pub one-reading : OneReading
   pub acceptance-is-exact : AcceptanceIsExact

@@ -1,14 +1,18 @@
 -- "That two answers meeting one statement are equal is proved." Every promise of a callable function is one equation with a definition; so one law
--- serves each, and for the five calls of a C host, and the three of `slave` below them, it is spelled out.
+-- serves each, and for every public function with more than one output it is spelled out: the calls of a C host, those of `slave`, and those of `replay`.
 use Prim.Native.Nat.{ℕ}
 use mathlib.Core.List.{List}
 use mathlib.Core.Path.{_≡_}
+use Rattle.link.specs.declared.state.LinkState.{LinkState}
 use Rattle.sheet.specs.Walk.{verdictOf}
+use Rattle.sheet.specs.declared.walk.Layout.{Layout}
 use Rattle.slave.specs.Answers.{sheetAnswer}
 use Rattle.slave.specs.Calls.{after, resetOf, enableOf}
-use Rattle.slave.specs.Exchange.{left, exchangeOf}
+use Rattle.slave.specs.Exchange.{Left, left, exchanged, exchangeOf}
+use Rattle.slave.specs.Wanted.{stepped, steppedOf, performed, performedOf}
 use Rattle.slave.specs.declared.answers.Answer.{Answer}
-use Rattle.replay.specs.Replay.{replayOf}
+use Rattle.replay.specs.Replay.{replayed, replayOf}
+use Rattle.replay.specs.declared.told.Told.{Told}
 use Rattle.type24.specs.Packed.{packed, packedAfter, afterCall, packedLeft, leftByCall, lengthsOf, packedReplay, byReplay}
 
 -- the law: two values that equal one definition are equal
@@ -62,8 +66,31 @@ OneExchange =
     → left r s m o ≡ exchangeOf sheet state memory command reply → left q t n p ≡ exchangeOf sheet state memory command reply
     → (r ≡ q) × (s ≡ t) × (m ≡ n) × (o ≡ p)
 
--- all of them
-pub record OneAnswers : Type 0 where
+-- slave::exchanging::perform: how many octets are as wanted, the state, the memory and the reply
+abbrev pub OnePerform : Type 0
+OnePerform =
+    (sheet : List ℕ) (lay : Layout) (st : LinkState) (state memory command wanted : List ℕ) (d e : ℕ) (s t m n o p : List ℕ)
+    → performed (stepped d s m) o ≡ performedOf wanted state memory (exchanged sheet lay st memory command)
+    → performed (stepped e t n) p ≡ performedOf wanted state memory (exchanged sheet lay st memory command)
+    → (d ≡ e) × (s ≡ t) × (m ≡ n) × (o ≡ p)
+
+-- replay::step::one, whose promise has the state and the memory
+abbrev pub OneStep : Type 0
+OneStep =
+    (l : ℕ) (state memory wanted : List ℕ) (x : Left) (d e : ℕ) (s t m n : List ℕ)
+    → stepped d s m ≡ steppedOf l state memory wanted x → stepped e t n ≡ steppedOf l state memory wanted x
+    → (d ≡ e) × (s ≡ t) × (m ≡ n)
+
+-- replay::playing::replay
+abbrev pub OneReplay : Type 0
+OneReplay =
+    (sheet state memory trace : List ℕ) (r q : Told) (s t m n : List ℕ)
+    → replayed r s m ≡ replayOf sheet state memory trace → replayed q t n ≡ replayOf sheet state memory trace
+    → (r ≡ q) × (s ≡ t) × (m ≡ n)
+
+-- all of them, and the law that serves any other
+pub record OneAnswers : Type 1 where
+  pub of-every-promise : OneAnswer
   pub t24-sheet : OneSheet
   pub t24-lengths : OneLengths
   pub t24-reset : OnePackedReset
@@ -73,3 +100,6 @@ pub record OneAnswers : Type 0 where
   pub slave-reset : OneReset
   pub slave-enable : OneEnable
   pub slave-exchange : OneExchange
+  pub slave-perform : OnePerform
+  pub replay-step : OneStep
+  pub replay-replay : OneReplay
