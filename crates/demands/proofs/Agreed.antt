@@ -9,7 +9,8 @@ use Rattle.slave.specs.Wanted.{differsAt}
 use Rattle.slave.proofs.Differs.{differs-self}
 use Rattle.replay.specs.Replay.{Replayed}
 use Rattle.replay.specs.Trace.{Traced, says, recordSize, recordsOf}
-use Rattle.demands.specs.Replays.{callsOf, ours, RepliesOf, runReplies, traceReplies, TracesHaveReplies, AgreesExactly}
+use Rattle.demands.specs.Replays.{callsOf, RepliesOf, runReplies, traceReplies, TracesHaveReplies, AgreesExactly}
+use Rattle.demands.specs.Writes.{ours}
 use Rattle.demands.specs.Sequences.{callOf, runOf}
 use Rattle.octets.proofs.Overlaid.{part-length}
 use Rattle.demands.proofs.Replays.{Played, ended, differed, agreed, played}

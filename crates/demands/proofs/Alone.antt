@@ -8,9 +8,9 @@ use Rattle.law.specs.Sheet.{Sheet, WellFormed, sheetOctets}
 use Rattle.slave.specs.Exchange.{Left, exchangeOf}
 use Rattle.demands.specs.Hidden.{DifferOnlyHidden, Seen, seen}
 use Rattle.demands.specs.Idle.{KeepsSecrets, AgreesWhereReached, refusesAll, singleReply, storesNothing, echoes, echoesAfterwards, inventing, inventsRsn}
-use Rattle.demands.specs.Sequences.{Call, Reset, Enable, Exchange, callOf, runOf, lastMemory}
+use Rattle.demands.specs.Sequences.{Call, Reset, Enable, Exchange, Replay, callOf, runOf, lastMemory}
 use Rattle.octets.proofs.Overlaid.{still-agree}
-use Rattle.demands.proofs.Secrets.{call-kept, demand-3}
+use Rattle.demands.proofs.Runs.{call-kept, demand-3}
 
 -- the same behind the same
 behind : {x : Seen} {xs ys : List Seen} → xs ≡ ys → x ∷ xs ≡ x ∷ ys
@@ -34,6 +34,7 @@ module _ (sheet state m₁ m₂ : List ℕ) where
   echoes-seen (Reset ∷ cs) = behind (echoes-seen cs)
   echoes-seen (Enable ∷ cs) = behind (echoes-seen cs)
   echoes-seen (Exchange command reply ∷ cs) = behind (echoes-seen cs)
+  echoes-seen (Replay trace ∷ cs) = behind (echoes-seen cs)
 
 module _ (sheet state memory : List ℕ) where
   refuses-last : (calls : List Call) → lastMemory memory (refusesAll sheet state memory calls) ≡ memory
@@ -52,6 +53,7 @@ module _ (sheet state memory : List ℕ) where
   echoes-last (Reset ∷ cs) = echoes-last cs
   echoes-last (Enable ∷ cs) = echoes-last cs
   echoes-last (Exchange command reply ∷ cs) = echoes-last cs
+  echoes-last (Replay trace ∷ cs) = echoes-last cs
 
 stores-last : (sheet state memory : List ℕ) (calls : List Call) → lastMemory memory (storesNothing sheet state memory calls) ≡ memory
 unfolding storesNothing lastMemory
@@ -88,6 +90,16 @@ echoes-afterwards-keeps-secrets h w state m₁ m₂ d (Reset ∷ cs) =
     let k = echoes-afterwards-keeps-secrets h w (callOf (sheetOctets h) state m₁ Reset .state) m₁ m₂ d cs in (behind (k .0), k .1)
 echoes-afterwards-keeps-secrets h w state m₁ m₂ d (Enable ∷ cs) =
     let k = echoes-afterwards-keeps-secrets h w (callOf (sheetOctets h) state m₁ Enable .state) m₁ m₂ d cs in (behind (k .0), k .1)
+echoes-afterwards-keeps-secrets h w state m₁ m₂ d (Replay trace ∷ cs) =
+    let k = call-kept h w (λ i. getD m₁ i 0 ≡ getD m₂ i 0) (d .shown) state m₁ m₂ (d .whole₁) (d .whole₂) (λ i e. e) (Replay trace) in
+    let l₁ = callOf (sheetOctets h) state m₁ (Replay trace) in
+    let l₂ = callOf (sheetOctets h) state m₂ (Replay trace) in
+    let e : l₁ .state ≡ l₂ .state = ap (λ (x : Seen). x .state) (k .same) in
+    let ih = echoes-afterwards-keeps-secrets h w (l₁ .state) (l₁ .memory) (l₂ .memory)
+    (record { whole₁ = k .whole₁; whole₂ = k .whole₂; shown = λ i r. k .agree i (inl (d .shown i r)) }) cs in (
+      ap₂ (λ (x : Seen) (xs : List Seen). x ∷ xs) (k .same) (ih .0 ∙ ap (λ (s : List ℕ). map seen (echoesAfterwards (sheetOctets h) s (l₂ .memory) cs)) e),
+      λ i q. ih .1 i (k .agree i (inl q)) ∙ ap (λ (s : List ℕ). getD (lastMemory (l₂ .memory) (echoesAfterwards (sheetOctets h) s (l₂ .memory) cs)) i 0) e,
+    )
 echoes-afterwards-keeps-secrets h w state m₁ m₂ d (Exchange command reply ∷ cs) =
     let k = call-kept h w (λ i. getD m₁ i 0 ≡ getD m₂ i 0) (d .shown) state m₁ m₂ (d .whole₁) (d .whole₂) (λ i e. e) (Exchange command reply) in
     let l₁ = exchangeOf (sheetOctets h) state m₁ command reply in

@@ -13,7 +13,8 @@ use Rattle.octets.proofs.Pick.{pick-yes, pick-no}
 use Rattle.slave.specs.Wanted.{steppedOf}
 use Rattle.replay.specs.Replay.{Replayed, onStep, playOf}
 use Rattle.replay.specs.Trace.{Traced, traced, recordSize, recordsOf, tracedOf}
-use Rattle.demands.specs.Replays.{ours, goesOn, CutInTwo}
+use Rattle.demands.specs.Replays.{goesOn, CutInTwo}
+use Rattle.demands.specs.Writes.{ours}
 
 -- what goes on behind a choice of two goes on behind each
 behind-both : (b : Bool) (x y whole : Replayed) (next : List ℕ → List ℕ → Replayed) → x ≡ goesOn x next → whole ≡ goesOn y next

@@ -25,7 +25,8 @@ use Rattle.replay.specs.declared.form.Record.{Record}
 use Rattle.replay.specs.declared.form.Record.the-variants.{End, Whole, Bad}
 use Rattle.replay.specs.declared.told.Told.{Told}
 use Rattle.replay.proofs.Forms.{form-end, form-on}
-use Rattle.demands.specs.Replays.{ours, Playable, goesOn, FormsJoin, further, ReplayCutInTwo}
+use Rattle.demands.specs.Replays.{Playable, goesOn, FormsJoin, further, ReplayCutInTwo}
+use Rattle.demands.specs.Writes.{ours}
 use Rattle.demands.proofs.Cut.{cut-in-two}
 use Rattle.octets.proofs.Overlaid.{part-length}
 use Rattle.demands.proofs.Playing.{replay-plays, again}

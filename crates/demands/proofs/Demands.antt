@@ -9,14 +9,12 @@ use Rattle.demands.proofs.CutWhole.{forms-join, replay-cut-in-two}
 use Rattle.demands.proofs.Exact.{acceptance-is-exact, rights-over-whole-span}
 use Rattle.demands.proofs.Folded.{replay-is-fold}
 use Rattle.demands.proofs.Histories.{history-is-run}
-use Rattle.demands.proofs.Lengths.{memory-keeps-its-length}
 use Rattle.demands.proofs.LawBench.{bench-by-law}
 use Rattle.demands.proofs.OnTheWire.{refused-on-the-wire}
 use Rattle.demands.proofs.Owned.{writes-own-octets}
-use Rattle.demands.proofs.Refusals.{refused-changes-nothing, states-stay-valid}
 use Rattle.demands.proofs.Playing.{replay-plays, records-are-answered, secrets-in-whole-replay, refused-replay-writes-nothing}
 use Rattle.demands.proofs.Reached.{secrets-in-replay, only-agreeing-reach}
-use Rattle.demands.proofs.Secrets.{demand-3}
+use Rattle.demands.proofs.Runs.{refused-changes-nothing, states-stay-valid, memory-keeps-its-length, demand-3}
 use Rattle.demands.proofs.Shut.{refuses-all-is-shut-out, single-reply-is-shut-out, stores-nothing-is-shut-out, echoes-afterwards-is-shut-out, invents-rsn-is-shut-out}
 use Rattle.demands.proofs.Unique.{one-answers}
 

@@ -7,7 +7,8 @@ use lib.ListN.{length, getD}
 use Rattle.slave.specs.Wanted.{differsAt}
 use Rattle.replay.specs.Replay.{Replayed}
 use Rattle.replay.specs.Trace.{Traced}
-use Rattle.demands.specs.Replays.{callsOf, ours, Folded, ReplayIsFold}
+use Rattle.demands.specs.Replays.{callsOf, Folded, ReplayIsFold}
+use Rattle.demands.specs.Writes.{ours}
 use Rattle.demands.specs.Sequences.{callOf, runOf, lastState, lastMemory}
 use Rattle.demands.proofs.Lengths.{reply-keeps}
 use Rattle.demands.proofs.Replays.{differs-before, differs-there, Played, ended, differed, agreed, played}

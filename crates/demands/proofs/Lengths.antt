@@ -26,7 +26,6 @@ use Rattle.machine.specs.declared.words.Effect.{Effect}
 use Rattle.machine.specs.declared.words.Effect.the-variants.{Quiet, Reads, Writes, Identifies, Alarms, Connects}
 use Rattle.machine.specs.declared.words.Outcome.{Outcome}
 use Rattle.octets.proofs.Overlaid.{put-length, part-length}
-use Rattle.demands.specs.Writes.{MemoryKeepsItsLength}
 use Rattle.demands.proofs.Refusals.{by-sheet, by-state}
 
 -- an effect keeps the memory's length
@@ -53,8 +52,8 @@ exchanged-length sheet memory command reply lay st v free =
     subst (λ (n : ℕ). Fitting (o .effect) (lay .l) n (length sheet)) (sym (r .0)) (outcome-fits sheet lay ok st (commandOf command)) in
     effect-length command memory (lay .l) (r .1) (o .effect) (length sheet) f
 
-pub memory-keeps-its-length : MemoryKeepsItsLength
-memory-keeps-its-length sheet state memory command reply =
+pub memory-keeps : (sheet state memory command reply : List ℕ) → length (exchangeOf sheet state memory command reply .memory) ≡ length memory
+memory-keeps sheet state memory command reply =
     unfold exchangeOf in
     by-sheet (λ (l : Left). length (l .memory) ≡ length memory) (verdictOf sheet) _ _ (λ fault p. refl)
     (λ lay v.

@@ -1,5 +1,6 @@
 -- The proofs of what the owner reads.
 pub mod Bench
+pub mod LawBench
 pub mod Histories
 pub mod Refusals
 pub mod Fates
@@ -16,9 +17,9 @@ pub mod Agreed
 pub mod Folded
 pub mod Cut
 pub mod Unique
-pub mod Alone
 pub mod Reached
-pub mod LawBench
 pub mod Playing
 pub mod CutWhole
+pub mod Runs
+pub mod Alone
 pub mod Demands

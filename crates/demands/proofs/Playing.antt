@@ -30,7 +30,7 @@ use Rattle.law.proofs.Complete.{complete}
 use Rattle.demands.specs.Replays.{callsOf, Alike, Playable, ReplayPlays, EachAnswered, RecordsAreAnswered, SecretsInWholeReplay, RefusedReplayWritesNothing}
 use Rattle.demands.specs.Sequences.{callOf, runOf}
 use Rattle.demands.proofs.Agreed.{traces-have-replies}
-use Rattle.demands.proofs.Lengths.{memory-keeps-its-length}
+use Rattle.demands.proofs.Lengths.{memory-keeps}
 use Rattle.octets.proofs.Overlaid.{part-length}
 use Rattle.demands.proofs.Reached.{secrets-in-replay}
 use Rattle.demands.proofs.Refusals.{by-sheet, by-state}
@@ -64,7 +64,7 @@ module _ (sheet state memory command reply : List ℕ) (lay : Layout) (st : Link
         valid = p .valid;
         held = ap (λ (x : Left). stateOf (x .state) (lay .l)) answers
             ∙ read-back _ (lay .l) (outcome-valid sheet lay st (commandOf command) (lay .l) facts (omega (arith, z)));
-        whole = memory-keeps-its-length sheet state memory command reply ∙ p .whole;
+        whole = memory-keeps sheet state memory command reply ∙ p .whole;
         on = λ e. omega (arith, on, e);
       }
 
@@ -116,7 +116,7 @@ secrets-in-whole-replay h w state m₁ m₂ hidden trace =
     (secrets-in-replay h w state m₁ m₂ hidden (h .l) 0 _ (traces-have-replies (h .l) trace) .alike)))))
 
 -- records that are played are told with 0 or 34
-told-of : (sheet : List ℕ) (l : ℕ) {k : ℕ} {state memory : List ℕ} {ts front : List Traced} {r : Replayed} → Played sheet l k state memory ts front r
+pub told-of : (sheet : List ℕ) (l : ℕ) {k : ℕ} {state memory : List ℕ} {ts front : List Traced} {r : Replayed} → Played sheet l k state memory ts front r
     → (r .answer .number ≡ 0 → ⊥) → (r .answer .number ≡ 34 → ⊥) → ⊥
 told-of sheet l ended n m = n refl
 told-of sheet l (differed w h) n m = m refl

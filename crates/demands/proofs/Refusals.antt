@@ -1,8 +1,8 @@
--- Demand 1 over the calls: a refused call changes nothing, and a valid state stays one.
+-- Reset, enable and exchange: a refused one changes nothing, and a valid state stays one.
 use mathlib.Core.Bool.{true, false, not}
 use mathlib.Core.Logic.{⊎-elim}
 use mathlib.Core.Path.{_≡_, refl, sym, ap, _∙_}
-use mathlib.Core.List.{List, [], _∷_}
+use mathlib.Core.List.{List, []}
 use Prim.Native.Nat.{ℕ, _≤_}
 use native.Mathlib.Omega.{arith}
 use borrow.Author.Tests.{eqb-true, not-false}
@@ -30,7 +30,7 @@ use Rattle.slave.specs.Calls.{After, resetOf, enableOf}
 use Rattle.slave.specs.Exchange.{Left, exchanged, exchangeOf}
 use Rattle.slave.specs.declared.answers.Answer.{Answer}
 use Rattle.slave.proofs.Order.{no-refusal}
-use Rattle.demands.specs.Sequences.{Call, Reset, Enable, Exchange, beside, callOf, runOf}
+use Rattle.demands.specs.Sequences.{beside}
 use Rattle.law.specs.Sheet.{Sheet, WellFormed, sheetOctets}
 use Rattle.law.specs.State.{validState}
 use Rattle.law.proofs.Clauses.{state-yes, state-no}
@@ -38,7 +38,7 @@ use Rattle.law.proofs.Complete.{complete}
 use Rattle.law.proofs.Layouts.{layoutFor}
 use Rattle.sheet.proofs.Valid.{same-layout}
 use Rattle.octets.proofs.Cases.{decided}
-use Rattle.demands.specs.Refused.{Unchanged, RefusedChangesNothing, ValidRecord, EachState, StatesStayValid}
+use Rattle.demands.specs.Refused.{Unchanged, ValidRecord}
 use Rattle.machine.proofs.Nexts.{outcome-valid}
 
 -- what holds of every refusal and of every answer that goes on, holds of the call
@@ -54,35 +54,33 @@ module _ {A : Type 0} (Q : A → Type 0) where
   by-state (State st) refuse go q g = g st refl
   by-state Invalid refuse go q g = q
 
+-- where a call answers another number than 0, it leaves all as it was
+abbrev pub Untold : List ℕ → List ℕ → List ℕ → Left → Type 0
+Untold state memory reply l = (l .answer .number ≡ 0 → ⊥) → Unchanged state memory reply l
+
 module _ (sheet state memory : List ℕ) where
   -- a refusal that leaves all as it was, and an answer 0, both have what demand 1 asks
-  reset-keeps : Unchanged state memory [] (beside memory (resetOf sheet state))
+  pub reset-keeps : Untold state memory [] (beside memory (resetOf sheet state))
   unfolding resetOf
   reset-keeps =
-      by-sheet (λ (a : After). Unchanged state memory [] (beside memory a)) (verdictOf sheet) _ _ (λ fault place n. (refl, refl, refl))
-      (λ lay v. pick-both (λ (a : After). Unchanged state memory [] (beside memory a)) _ (λ n. (refl, refl, refl)) (λ n. absurd (n refl)))
+      by-sheet (λ (a : After). Untold state memory [] (beside memory a)) (verdictOf sheet) _ _ (λ fault place n. (refl, refl, refl))
+      (λ lay v. pick-both (λ (a : After). Untold state memory [] (beside memory a)) _ (λ n. (refl, refl, refl)) (λ n. absurd (n refl)))
 
-  enable-keeps : Unchanged state memory [] (beside memory (enableOf sheet state))
+  pub enable-keeps : Untold state memory [] (beside memory (enableOf sheet state))
   unfolding enableOf
   enable-keeps =
-      by-sheet (λ (a : After). Unchanged state memory [] (beside memory a)) (verdictOf sheet) _ _ (λ fault place n. (refl, refl, refl))
+      by-sheet (λ (a : After). Untold state memory [] (beside memory a)) (verdictOf sheet) _ _ (λ fault place n. (refl, refl, refl))
       (λ lay v.
-      by-state (λ (a : After). Unchanged state memory [] (beside memory a)) (stateOf state (lay .l)) _ _ (λ n. (refl, refl, refl))
-      (λ st h. pick-both (λ (a : After). Unchanged state memory [] (beside memory a)) _ (λ n. (refl, refl, refl)) (λ n. absurd (n refl))))
+      by-state (λ (a : After). Untold state memory [] (beside memory a)) (stateOf state (lay .l)) _ _ (λ n. (refl, refl, refl))
+      (λ st h. pick-both (λ (a : After). Untold state memory [] (beside memory a)) _ (λ n. (refl, refl, refl)) (λ n. absurd (n refl))))
 
-  exchange-keeps : (command reply : List ℕ) → Unchanged state memory reply (exchangeOf sheet state memory command reply)
+  pub exchange-keeps : (command reply : List ℕ) → Untold state memory reply (exchangeOf sheet state memory command reply)
   unfolding exchangeOf exchanged
   exchange-keeps command reply =
-      by-sheet (Unchanged state memory reply) (verdictOf sheet) _ _ (λ fault place n. (refl, refl, refl))
+      by-sheet (Untold state memory reply) (verdictOf sheet) _ _ (λ fault place n. (refl, refl, refl))
       (λ lay v.
-      by-state (Unchanged state memory reply) (stateOf state (lay .l)) _ _ (λ n. (refl, refl, refl))
-      (λ st h. pick-both (Unchanged state memory reply) _ (λ n. (refl, refl, refl)) (λ n. absurd (n refl))))
-
-pub refused-changes-nothing : RefusedChangesNothing
-unfolding callOf
-refused-changes-nothing sheet state memory Reset = reset-keeps sheet state memory
-refused-changes-nothing sheet state memory Enable = enable-keeps sheet state memory
-refused-changes-nothing sheet state memory (Exchange command reply) = exchange-keeps sheet state memory command reply
+      by-state (Untold state memory reply) (stateOf state (lay .l)) _ _ (λ n. (refl, refl, refl))
+      (λ st h. pick-both (Untold state memory reply) _ (λ n. (refl, refl, refl)) (λ n. absurd (n refl))))
 
 -- a fault's number is not 0
 fault-counts : (fault : Fault) (place : ℕ) → sheetAnswer (Faulty fault place) .number ≡ 0 → ⊥
@@ -96,7 +94,7 @@ fault-counts Excess place e = omega arith
 fault-counts Unmapped place e = omega arith
 
 -- a state that the machine reads beside the sheet
-abbrev Held : List ℕ → List ℕ → Type 0
+abbrev pub Held : List ℕ → List ℕ → Type 0
 Held sheet state = (lay : Layout) × (st : LinkState) × (verdictOf sheet ≡ Valid lay) × (stateOf state (lay .l) ≡ State st)
 
 module _ (sheet : List ℕ) where
@@ -104,7 +102,7 @@ module _ (sheet : List ℕ) where
   written-valid : (lay : Layout) (st : LinkState) → verdictOf sheet ≡ Valid lay → Facts (lay .l) st → Held sheet (octetsOf st)
   written-valid lay st v f = (lay, st, v, read-back st (lay .l) f)
 
-  reset-valid : (state : List ℕ) → resetOf sheet state .answer .number ≡ 0 → Held sheet (resetOf sheet state .state)
+  pub reset-valid : (state : List ℕ) → resetOf sheet state .answer .number ≡ 0 → Held sheet (resetOf sheet state .state)
   unfolding resetOf
   reset-valid state =
       by-sheet (λ (a : After). a .answer .number ≡ 0 → Held sheet (a .state)) (verdictOf sheet) _ _
@@ -114,13 +112,13 @@ module _ (sheet : List ℕ) where
       (λ e. written-valid lay (fresh (lay .l)) v (fresh-valid (lay .l))))
 
   module _ (state memory : List ℕ) (ok : Held sheet state) where
-    again-reset : Held sheet (resetOf sheet state .state)
+    pub again-reset : Held sheet (resetOf sheet state .state)
     unfolding resetOf
     again-reset =
         by-sheet (λ (a : After). Held sheet (a .state)) (verdictOf sheet) _ _ (λ fault place. ok)
         (λ lay v. pick-both (λ (a : After). Held sheet (a .state)) _ ok (written-valid lay (fresh (lay .l)) v (fresh-valid (lay .l))))
 
-    then-enable : Held sheet (enableOf sheet state .state)
+    pub then-enable : Held sheet (enableOf sheet state .state)
     unfolding enableOf
     then-enable =
         by-sheet (λ (a : After). Held sheet (a .state)) (verdictOf sheet) _ _ (λ fault place. ok)
@@ -130,7 +128,7 @@ module _ (sheet : List ℕ) where
         pick-cases (λ (a : After). Held sheet (a .state)) (not (eqb (st .link) 0)) (λ e. ok)
         (λ e. written-valid lay (enabled st) v (enabled-valid (lay .l) st (read-valid state (lay .l) st h .1) (eqb-true (st .link) 0 (not-false _ e))))))
 
-    then-exchange : (command reply : List ℕ) → Held sheet (exchangeOf sheet state memory command reply .state)
+    pub then-exchange : (command reply : List ℕ) → Held sheet (exchangeOf sheet state memory command reply .state)
     unfolding exchangeOf exchanged
     then-exchange command reply =
         by-sheet (λ (x : Left). Held sheet (x .state)) (verdictOf sheet) _ _ (λ fault place. ok)
@@ -143,26 +141,13 @@ module _ (sheet : List ℕ) where
         let on : 1 ≤ st .link = omega (arith, q .3) in
         written-valid lay _ v (outcome-valid sheet lay st (commandOf command) (lay .l) (read-valid state (lay .l) st h .1) on))))
 
-    then-call : (c : Call) → Held sheet (callOf sheet state memory c .state)
-    unfolding callOf
-    then-call Reset = again-reset
-    then-call Enable = then-enable
-    then-call (Exchange command reply) = then-exchange command reply
-
-  run-valid : (state memory : List ℕ) → Held sheet state → (calls : List Call) → EachState (Held sheet) (runOf sheet state memory calls)
-  unfolding runOf
-  run-valid state memory ok [] = tt
-  run-valid state memory ok (c ∷ cs) =
-      let l = callOf sheet state memory c in
-      (then-call state memory ok c, run-valid (l .state) (l .memory) (then-call state memory ok c) cs)
-
 -- the machine reads what the law calls valid, and no other
 module _ (h : Sheet) (w : WellFormed h) where
-  held : (state : List ℕ) → ValidRecord h state → Held (sheetOctets h) state
+  pub held : (state : List ℕ) → ValidRecord h state → Held (sheetOctets h) state
   unfolding fieldsOf
   held state v = (layoutFor h, fieldsOf state, complete h w, state-yes h state v .0)
 
-  valid : (state : List ℕ) → Held (sheetOctets h) state → ValidRecord h state
+  pub valid : (state : List ℕ) → Held (sheetOctets h) state → ValidRecord h state
   valid state (lay, st, v, e) =
       ⊎-elim
       (λ (b : validState h state ≡ true). b)
@@ -173,13 +158,3 @@ module _ (h : Sheet) (w : WellFormed h) where
     where
       no-state : {x : LinkState} → Invalid ≡ State x → ⊥
       no-state q = let z : _≡_ {A = ℕ} 0 1 = cc in omega arith
-
-  each-valid : (ls : List Left) → EachState (Held (sheetOctets h)) ls → EachState (ValidRecord h) ls
-  each-valid [] all = tt
-  each-valid (l ∷ ls) (x, all) = (valid (l .state) x, each-valid ls all)
-
-pub states-stay-valid : StatesStayValid
-states-stay-valid = record {
-  from-a-valid-one = λ h w state memory v calls. each-valid h w (runOf (sheetOctets h) state memory calls) (run-valid (sheetOctets h) state memory (held h w state v) calls);
-  reset-leaves-one = λ h w state e. valid h w (resetOf (sheetOctets h) state .state) (reset-valid (sheetOctets h) state e);
-}

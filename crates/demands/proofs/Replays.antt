@@ -15,7 +15,8 @@ use Rattle.slave.specs.Wanted.{differsAt, steppedOf}
 use Rattle.slave.proofs.Differs.{differs-most}
 use Rattle.replay.specs.Replay.{Replayed, replayed, onStep, playOf}
 use Rattle.replay.specs.Trace.{Traced, says}
-use Rattle.demands.specs.Replays.{ours, agreeing, RepliesOf}
+use Rattle.demands.specs.Replays.{RepliesOf}
+use Rattle.demands.specs.Writes.{ours, agreeing}
 use Rattle.demands.proofs.Lengths.{reply-keeps}
 
 -- a search through replies of one length that stops nowhere: they are one

@@ -1,10 +1,9 @@
--- Demand 3: two runs on memories that differ only in octets without the read right.
---     call-kept      one call: the same is seen, and the memories agree where they agreed and where it reached
---     demand-3       every sequence of calls
-use mathlib.Core.Logic.{_⊎_, inl, inr, ⊎-elim}
+-- One exchange on two memories that differ only in octets without the read right: the same is seen, and the memories agree where they agreed and where it
+-- reached.
+use mathlib.Core.Logic.{_⊎_, ⊎-elim}
 use mathlib.Core.Path.{_≡_, refl, sym, ap, ap₂, subst, subst₂, _∙_}
 use mathlib.Core.Bool.{not, _&&_}
-use mathlib.Core.List.{List, [], _∷_, map}
+use mathlib.Core.List.{List}
 use Prim.Native.Nat.{ℕ, _<_, _≤_}
 use native.Mathlib.Omega.{arith}
 use lib.Dec.{eqb}
@@ -19,9 +18,8 @@ use Rattle.law.specs.Exchange.{Fate, mn, missed, fateOf, stateAfter, replyFor}
 use Rattle.law.proofs.Held.{length-cells, stored-length}
 use Rattle.law.proofs.OneSheet.{one-sheet}
 use Rattle.demands.specs.Answered.{Answered}
-use Rattle.demands.specs.Hidden.{Readable, Seen, seen, Demand3}
-use Rattle.demands.specs.Sequences.{Call, Reset, Enable, Exchange, callOf, runOf, lastMemory}
-use Rattle.demands.specs.Writes.{cellAt, Wrote, ReachedBy, Reached}
+use Rattle.demands.specs.Hidden.{Readable, seen}
+use Rattle.demands.specs.Writes.{cellAt, Wrote}
 use Rattle.demands.proofs.Done.{answered-done}
 use Rattle.demands.proofs.Owned.{Refuses, answered-or, octet-is, octet-past, wrote-is}
 use Rattle.demands.proofs.Shown.{AgreeShown, row-same, fate-same}
@@ -39,7 +37,7 @@ module _ (h : Sheet) (w : WellFormed h) (E : ℕ → Type 0) (readable : (i : �
     shown i r = agree i (readable i r)
 
     -- a call that leaves the memory as it was
-    still : (answer : _) (after reply : List ℕ) (R : ℕ → Type 0) → ((i : ℕ) → R i → getD m₁ i 0 ≡ getD m₂ i 0)
+    pub still : (answer : _) (after reply : List ℕ) (R : ℕ → Type 0) → ((i : ℕ) → R i → getD m₁ i 0 ≡ getD m₂ i 0)
         → Kept h E R (left answer after m₁ reply) (left answer after m₂ reply)
     still answer after reply R reached = record {
       same = refl;
@@ -117,7 +115,7 @@ module _ (h : Sheet) (w : WellFormed h) (E : ℕ → Type 0) (readable : (i : �
                 (λ r. reached-agree i r);
           }
 
-      exchange-kept : Kept h E R (exchangeOf (sheetOctets h) state m₁ command reply) (exchangeOf (sheetOctets h) state m₂ command reply)
+      pub exchange-kept : Kept h E R (exchangeOf (sheetOctets h) state m₁ command reply) (exchangeOf (sheetOctets h) state m₂ command reply)
       exchange-kept =
           ⊎-elim
           (λ (go : (m : List ℕ) → length m ≡ room (h .regions) → Answered h (sheetOctets h) state m command reply). answered-kept (go m₁ w₁) (go m₂ w₂))
@@ -128,36 +126,3 @@ module _ (h : Sheet) (w : WellFormed h) (E : ℕ → Type 0) (readable : (i : �
           (still (told (stop .0) 0) state reply R
           (λ i r. ap (λ (l : Left). getD (l .memory) i 0) (sym e₁) ∙ reached-agree i r ∙ ap (λ (l : Left). getD (l .memory) i 0) e₂)))
           (answered-or h w state command reply)
-
-    pub call-kept : (c : Call) → Kept h E (ReachedBy (sheetOctets h) state m₁ c) (callOf (sheetOctets h) state m₁ c) (callOf (sheetOctets h) state m₂ c)
-    unfolding callOf
-    call-kept Reset = still _ _ [] (λ i. ⊥) (λ i r. absurd r)
-    call-kept Enable = still _ _ [] (λ i. ⊥) (λ i r. absurd r)
-    call-kept (Exchange command reply) = exchange-kept command reply
-
--- the same over every sequence, with what the calls reach added to E on the way
-run-kept : (h : Sheet) → WellFormed h → (calls : List Call) (E : ℕ → Type 0) → ((i : ℕ) → Readable h i → E i)
-    → (state m₁ m₂ : List ℕ) → length m₁ ≡ room (h .regions) → length m₂ ≡ room (h .regions) → ((i : ℕ) → E i → getD m₁ i 0 ≡ getD m₂ i 0)
-    → (map seen (runOf (sheetOctets h) state m₁ calls) ≡ map seen (runOf (sheetOctets h) state m₂ calls))
-    × ((i : ℕ) → E i ⊎ Reached (sheetOctets h) state m₁ calls i
-    → getD (lastMemory m₁ (runOf (sheetOctets h) state m₁ calls)) i 0 ≡ getD (lastMemory m₂ (runOf (sheetOctets h) state m₂ calls)) i 0)
-unfolding runOf lastMemory
-run-kept h w [] E readable state m₁ m₂ w₁ w₂ agree = (refl, λ i. ⊎-elim (λ e. agree i e) (λ r. absurd r))
-run-kept h w (c ∷ cs) E readable state m₁ m₂ w₁ w₂ agree =
-    let k = call-kept h w E readable state m₁ m₂ w₁ w₂ agree c in
-    let l₁ = callOf (sheetOctets h) state m₁ c in
-    let l₂ = callOf (sheetOctets h) state m₂ c in
-    let e : l₁ .state ≡ l₂ .state = ap (λ (x : Seen). x .state) (k .same) in
-    let ih = run-kept h w cs (λ i. E i ⊎ ReachedBy (sheetOctets h) state m₁ c i) (λ i r. inl (readable i r)) (l₁ .state) (l₁ .memory) (l₂ .memory)
-    (k .whole₁) (k .whole₂) (k .agree) in (
-      ap₂ (λ (x : Seen) (xs : List Seen). x ∷ xs) (k .same)
-          (ih .0 ∙ ap (λ (s : List ℕ). map seen (runOf (sheetOctets h) s (l₂ .memory) cs)) e),
-      λ i j.
-          ih .1 i (⊎-elim (λ a. inl (inl a)) (λ r. ⊎-elim (λ b. inl (inr b)) (λ b. inr b) r) j)
-          ∙ ap (λ (s : List ℕ). getD (lastMemory (l₂ .memory) (runOf (sheetOctets h) s (l₂ .memory) cs)) i 0) e,
-    )
-
-pub demand-3 : Demand3
-demand-3 h w state m₁ m₂ d calls =
-    let k = run-kept h w calls (λ i. getD m₁ i 0 ≡ getD m₂ i 0) (d .shown) state m₁ m₂ (d .whole₁) (d .whole₂) (λ i e. e) in
-    (k .0, λ i e. k .1 i (inl e), λ i r. k .1 i (inr r))

@@ -7,22 +7,30 @@ use Rattle.law.specs.Sheet.{Sheet, WellFormed, sheetOctets}
 use Rattle.law.specs.State.{validState}
 use Rattle.slave.specs.Calls.{resetOf}
 use Rattle.slave.specs.Exchange.{Left}
-use Rattle.demands.specs.Sequences.{Call, Reset, Enable, Exchange, callOf, runOf}
+use Rattle.demands.specs.Sequences.{Call, Reset, Enable, Exchange, Replay, callOf, runOf}
 
 -- the octets lent for a reply
 abbrev pub lentReply : Call → List ℕ
 lentReply Reset = []
 lentReply Enable = []
 lentReply (Exchange command reply) = reply
+lentReply (Replay trace) = []
 
--- where a call answers another number than 0, state, memory and reply hold what they held before
+-- a call is refused by its number: any but 0, and of a replay any but 0 and 34, which tells a difference
+abbrev pub IsRefused : Call → Left → Type 0
+IsRefused Reset l = l .answer .number ≡ 0 → ⊥
+IsRefused Enable l = l .answer .number ≡ 0 → ⊥
+IsRefused (Exchange command reply) l = l .answer .number ≡ 0 → ⊥
+IsRefused (Replay trace) l = (l .answer .number ≡ 0 → ⊥) × (l .answer .number ≡ 34 → ⊥)
+
+-- state, memory and reply hold what they held before
 abbrev pub Unchanged : List ℕ → List ℕ → List ℕ → Left → Type 0
-Unchanged state memory reply l = (l .answer .number ≡ 0 → ⊥) → (l .state ≡ state) × (l .memory ≡ memory) × (l .reply ≡ reply)
+Unchanged state memory reply l = (l .state ≡ state) × (l .memory ≡ memory) × (l .reply ≡ reply)
 
 -- "A refused call gives its number ..; state, memory and reply then hold what they held before": whatever is lent, and so at any point of a sequence
 abbrev pub RefusedChangesNothing : Type 0
 RefusedChangesNothing =
-    (sheet state memory : List ℕ) (c : Call) → Unchanged state memory (lentReply c) (callOf sheet state memory c)
+    (sheet state memory : List ℕ) (c : Call) → IsRefused c (callOf sheet state memory c) → Unchanged state memory (lentReply c) (callOf sheet state memory c)
 
 -- a state that is a valid record beside the sheet
 abbrev pub ValidRecord : Sheet → List ℕ → Type 0

@@ -14,28 +14,16 @@ use Rattle.sheet.specs.declared.walk.Verdict.the-variants.{Valid}
 use Rattle.law.specs.Words.{Every}
 use Rattle.law.specs.Sheet.{Sheet, WellFormed, IsOctet, sheetOctets}
 use Rattle.slave.specs.Answers.{told}
-use Rattle.slave.specs.Exchange.{Left, exchangeOf}
-use Rattle.slave.specs.Wanted.{differsAt}
+use Rattle.slave.specs.Exchange.{Left}
 use Rattle.replay.specs.Replay.{Replayed, replayed, playOf, replayOf}
 use Rattle.replay.specs.Trace.{Traced, says, formOf, recordSize, recordsOf, tracedOf}
 use Rattle.demands.specs.Hidden.{DifferOnlyHidden}
 use Rattle.demands.specs.Sequences.{Call, Exchange, runOf, lastState, lastMemory}
-use Rattle.demands.specs.Writes.{Reached}
+use Rattle.demands.specs.Writes.{ours, agreeing, ReachedIn}
 
 -- a trace's records as calls of a host: each command, with the trace's reply in the lent octets
 abbrev pub callsOf : List Traced → List Call
 callsOf ts = map (λ (t : Traced). Exchange (t .command) (t .reply)) ts
-
--- our machine's exchange of a record
-abbrev pub ours : List ℕ → List ℕ → List ℕ → Traced → Left
-ours sheet state memory t = exchangeOf sheet state memory (t .command) (t .reply)
-
--- the records at the front whose replies are our machine's, up to the first whose reply is another
-unfoldable pub agreeing : List ℕ → List ℕ → List ℕ → List Traced → List Traced
-agreeing sheet state memory [] = []
-agreeing sheet state memory (t ∷ ts) =
-    pick (eqb (differsAt (ours sheet state memory t .reply) (t .reply)) (length (t .reply)))
-    (t ∷ agreeing sheet (ours sheet state memory t .state) (ours sheet state memory t .memory) ts) []
 
 -- each record's reply has l octets: all that is asked of the records below
 abbrev pub RepliesOf : ℕ → List Traced → Type 0
@@ -163,7 +151,7 @@ pub record Alike (m₁ m₂ : List ℕ) (r₁ r₂ : Replayed) : Type 0 where
 pub record SameReplay (sheet state m₁ m₂ : List ℕ) (l k : ℕ) (ts : List Traced) : Type 0 where
   pub alike : Alike m₁ m₂ (playOf sheet l k state m₁ ts) (playOf sheet l k state m₂ ts)
   pub fronts : agreeing sheet state m₁ ts ≡ agreeing sheet state m₂ ts
-  pub reached : (place : ℕ) → Reached sheet state m₁ (callsOf (agreeing sheet state m₁ ts)) place
+  pub reached : (place : ℕ) → ReachedIn sheet state m₁ (agreeing sheet state m₁ ts) place
       → getD (playOf sheet l k state m₁ ts .memory) place 0 ≡ getD (playOf sheet l k state m₂ ts .memory) place 0
 
 -- demand 3 of the replay, on memories that differ only in octets without the read right
@@ -183,5 +171,5 @@ SecretsInWholeReplay =
 abbrev pub OnlyAgreeingReach : Type 0
 OnlyAgreeingReach =
     (sheet state memory : List ℕ) (l k : ℕ) (ts : List Traced) → Every IsOctet sheet → RepliesOf l ts
-    → (place : ℕ) → (Reached sheet state memory (callsOf (agreeing sheet state memory ts)) place → ⊥)
+    → (place : ℕ) → (ReachedIn sheet state memory (agreeing sheet state memory ts) place → ⊥)
     → getD (playOf sheet l k state memory ts .memory) place 0 ≡ getD memory place 0

@@ -3,24 +3,33 @@
 use Prim.Native.Nat.{ℕ}
 use mathlib.Core.List.{List, [], _∷_}
 use mathlib.Core.Path.{_≡_}
+use Rattle.replay.specs.Replay.{Replayed, replayed, replayOf}
+use Rattle.replay.specs.Trace.{says}
+use Rattle.slave.specs.Answers.{told}
 use Rattle.slave.specs.Calls.{After, after, resetOf, enableOf}
 use Rattle.slave.specs.Exchange.{Left, left, exchangeOf}
 
--- a call: reset, enable, or an exchange with its command and the octets that its lent reply holds, of any content and length
+-- a call: reset, enable, an exchange with its command and the octets that its lent reply holds, or the replay of a trace, all of any content and length
 pub data Call : Type 0 where
   Reset : Call
   Enable : Call
   Exchange : List ℕ → List ℕ → Call
+  Replay : List ℕ → Call
 
 -- what a call of reset or enable leaves: the memory is not lent to it, and no reply is
 abbrev pub beside : List ℕ → After → Left
 beside memory a = left (a .answer) (a .state) memory []
+
+-- what a call of replay leaves: no reply is lent to it
+abbrev pub withoutReply : Replayed → Left
+withoutReply r = left (told (r .answer .number) (r .answer .place)) (r .state) (r .memory) []
 
 -- what the defined call leaves, of a state of any octets and a memory
 unfoldable pub callOf : List ℕ → List ℕ → List ℕ → Call → Left
 callOf sheet state memory Reset = beside memory (resetOf sheet state)
 callOf sheet state memory Enable = beside memory (enableOf sheet state)
 callOf sheet state memory (Exchange command reply) = exchangeOf sheet state memory command reply
+callOf sheet state memory (Replay trace) = withoutReply (replayOf sheet state memory trace)
 
 -- what each call of a sequence leaves
 unfoldable pub runOf : List ℕ → List ℕ → List ℕ → List Call → List Left
@@ -37,12 +46,14 @@ unfoldable pub lastMemory : List ℕ → List Left → List ℕ
 lastMemory memory [] = memory
 lastMemory memory (l ∷ ls) = lastMemory (l .memory) ls
 
--- what a call left meets the promise of the function that was called: the promises of `slave`, word for word
+-- what a call left meets the promise of the function that was called: the promises of `slave` and `replay`, word for word
 abbrev pub Meets : List ℕ → List ℕ → List ℕ → Call → Left → Type 0
 Meets sheet state memory Reset l = (after (l .answer) (l .state) ≡ resetOf sheet state) × (l .memory ≡ memory) × (l .reply ≡ [])
 Meets sheet state memory Enable l = (after (l .answer) (l .state) ≡ enableOf sheet state) × (l .memory ≡ memory) × (l .reply ≡ [])
 Meets sheet state memory (Exchange command reply) l =
     left (l .answer) (l .state) (l .memory) (l .reply) ≡ exchangeOf sheet state memory command reply
+Meets sheet state memory (Replay trace) l =
+    (replayed (says (l .answer .number) (l .answer .place)) (l .state) (l .memory) ≡ replayOf sheet state memory trace) × (l .reply ≡ [])
 
 -- a host's history: each call met its promise on what the calls before it had left
 pub data History (sheet : List ℕ) : List ℕ → List ℕ → List Call → List Left → Type 0 where
