@@ -8,7 +8,8 @@ use lib.ListN.{length, drop, length-drop}
 use Rattle.slave.specs.Wanted.{differsAt}
 use Rattle.slave.proofs.Differs.{differs-self}
 use Rattle.replay.specs.Replay.{Replayed}
-use Rattle.replay.specs.Trace.{Traced, says, recordSize, recordsOf}
+use Rattle.replay.specs.Trace.{Traced, recordSize, recordsOf}
+use Rattle.slave.specs.Answers.{told}
 use Rattle.demands.specs.Replays.{callsOf, RepliesOf, runReplies, traceReplies, TracesHaveReplies, AgreesExactly}
 use Rattle.demands.specs.Writes.{ours}
 use Rattle.demands.specs.Sequences.{callOf, runOf}
@@ -25,9 +26,9 @@ all-agree sheet l (agreed e p) z = ap₂ (λ (x : List ℕ) (xs : List (List ℕ
 
 -- and one whose replies are all the trace's went to the end
 to-the-end : (sheet : List ℕ) (l : ℕ) {k : ℕ} {state memory : List ℕ} {ts front : List Traced} {r : Replayed} → Played sheet l k state memory ts front r
-    → runReplies (runOf sheet state memory (callsOf ts)) ≡ traceReplies ts → r .answer ≡ says 0 (k + length ts)
+    → runReplies (runOf sheet state memory (callsOf ts)) ≡ traceReplies ts → r .answer ≡ told 0 (k + length ts)
 unfolding runOf callOf
-to-the-end sheet l (ended {k = k}) q = ap (λ (n : ℕ). says 0 n) (let e : k ≡ k + 0 = omega arith in e)
+to-the-end sheet l (ended {k = k}) q = ap (λ (n : ℕ). told 0 n) (let e : k ≡ k + 0 = omega arith in e)
 to-the-end sheet l (differed {state = state} {memory = memory} {t = t} w h) q =
     let e : ours sheet state memory t .reply ≡ t .reply = cc in
     let d : differsAt (ours sheet state memory t .reply) (t .reply) ≡ length (t .reply) =
@@ -36,7 +37,7 @@ to-the-end sheet l (differed {state = state} {memory = memory} {t = t} w h) q =
 to-the-end sheet l (agreed {k = k} {state = state} {memory = memory} {t = t} {ts = ts} e p) q =
     let tail : runReplies (runOf sheet (ours sheet state memory t .state) (ours sheet state memory t .memory) (callsOf ts)) ≡ traceReplies ts = cc in
     let n : suc k + length ts ≡ k + suc (length ts) = omega arith in
-    to-the-end sheet l p tail ∙ ap (λ (n : ℕ). says 0 n) n
+    to-the-end sheet l p tail ∙ ap (λ (n : ℕ). told 0 n) n
 
 pub agrees-exactly : AgreesExactly
 agrees-exactly sheet state memory l k ts w =

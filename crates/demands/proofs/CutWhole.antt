@@ -20,10 +20,11 @@ use Rattle.link.specs.declared.state.LinkState.{LinkState}
 use Rattle.sheet.specs.declared.walk.Layout.{Layout}
 use Rattle.slave.specs.Wanted.{Stepped, steppedOf}
 use Rattle.replay.specs.Replay.{Replayed, replayed, onStep, playOf, replayOf}
-use Rattle.replay.specs.Trace.{Traced, traced, says, kindLength, recordSize, faultOf, recordAt, formed, formFrom, formOf, recordsOf, tracedOf}
+use Rattle.replay.specs.Trace.{Traced, traced, kindLength, recordSize, faultOf, recordAt, formed, formFrom, formOf, recordsOf, tracedOf}
+use Rattle.slave.specs.Answers.{told}
 use Rattle.replay.specs.declared.form.Record.{Record}
 use Rattle.replay.specs.declared.form.Record.the-variants.{End, Whole, Bad}
-use Rattle.replay.specs.declared.told.Told.{Told}
+use Rattle.slave.specs.declared.answers.Answer.{Answer}
 use Rattle.replay.proofs.Forms.{form-end, form-on}
 use Rattle.demands.specs.Replays.{Playable, goesOn, FormsJoin, further, ReplayCutInTwo}
 use Rattle.demands.specs.Writes.{ours}
@@ -32,8 +33,8 @@ use Rattle.octets.proofs.Overlaid.{part-length}
 use Rattle.demands.proofs.Playing.{replay-plays, again}
 
 -- the form y of what stands behind p octets, in the form x of the whole
-abbrev Joined : ℕ → Told → Told → Type 0
-Joined p x y = (y .number ≡ 0 → x .number ≡ 0) × ((y .number ≡ 0 → ⊥) → x ≡ says (y .number) (p + y .place))
+abbrev Joined : ℕ → Answer → Answer → Type 0
+Joined p x y = (y .number ≡ 0 → x .number ≡ 0) × ((y .number ≡ 0 → ⊥) → x ≡ told (y .number) (p + y .place))
 
 -- where the form from a record on tells no fault, that record has none
 module _ (l : ℕ) (s : List ℕ) (k n : ℕ) (h : k * recordSize l < length s) where
@@ -79,7 +80,7 @@ record-behind l t u at =
     (lt-or-le at (length u))
 
 -- one record's form, from its place in what is behind and in the whole
-joined-formed : (p at : ℕ) (r : Record) (x y : Told) → Joined p x y → Joined p (formed r (p + at) x) (formed r at y)
+joined-formed : (p at : ℕ) (r : Record) (x y : Answer) → Joined p x y → Joined p (formed r (p + at) x) (formed r at y)
 unfolding formed
 joined-formed p at End x y j = (λ z. refl, λ n. absurd (n refl))
 joined-formed p at Whole x y j = j
@@ -139,8 +140,8 @@ module _ (l m : ℕ) (t u : List ℕ) (e : length t ≡ m * recordSize l) where
       let first = form-first l t k i b z in
       let whole : faultOf l (drop (k * recordSize l) (t ++ u)) ≡ 0 =
       ap (faultOf l) (drop-append-le (k * recordSize l) t u (omega arith)) ∙ still-whole l (drop (k * recordSize l) t) u (omega arith) first in
-      subst (λ (x : Told). Joined (m * recordSize l) x (formOf l u)) (sym (form-on l (t ++ u) k n (omega arith) whole))
-      (before j (suc k) n i (omega arith) (omega arith) (omega arith) (ap (λ (x : Told). x .number) (sym (form-on l t k i b first)) ∙ z))
+      subst (λ (x : Answer). Joined (m * recordSize l) x (formOf l u)) (sym (form-on l (t ++ u) k n (omega arith) whole))
+      (before j (suc k) n i (omega arith) (omega arith) (omega arith) (ap (λ (x : Answer). x .number) (sym (form-on l t k i b first)) ∙ z))
 
 pub forms-join : FormsJoin
 forms-join l m t u e z = before l m t u e m 0 (suc (length (t ++ u))) (suc (length t)) (omega arith) (omega arith) (omega arith) z
@@ -155,12 +156,12 @@ further-both m false v w p q = q
 counted : (sheet : List ℕ) (l m k : ℕ) (state memory : List ℕ) (ts : List Traced)
     → playOf sheet l (k + m) state memory ts ≡ further m (playOf sheet l k state memory ts)
 unfolding playOf onStep
-counted sheet l m k state memory [] = ap (λ (n : ℕ). replayed (says 0 (k + n)) state memory) (sym (pick-yes _ _ refl))
+counted sheet l m k state memory [] = ap (λ (n : ℕ). replayed (told 0 (k + n)) state memory) (sym (pick-yes _ _ refl))
 counted sheet l m k state memory (t ∷ ts) =
     let x = steppedOf l state memory (t .reply) (ours sheet state memory t) in
     let e : 64 * (k + m) + x .at ≡ 64 * k + x .at + 64 * m = omega arith in
-    further-both m _ (replayed (says 34 (64 * k + x .at)) (x .state) (x .memory)) (playOf sheet l (suc k) (x .state) (x .memory) ts)
-    (ap (λ (n : ℕ). replayed (says 34 n) (x .state) (x .memory)) (e ∙ ap (λ (n : ℕ). 64 * k + x .at + n) (sym (pick-no _ _ refl))))
+    further-both m _ (replayed (told 34 (64 * k + x .at)) (x .state) (x .memory)) (playOf sheet l (suc k) (x .state) (x .memory) ts)
+    (ap (λ (n : ℕ). replayed (told 34 n) (x .state) (x .memory)) (e ∙ ap (λ (n : ℕ). 64 * k + x .at + n) (sym (pick-no _ _ refl))))
     (ap (λ (n : ℕ). playOf sheet l n (x .state) (x .memory) ts) (sym (suc-add k m)) ∙ counted sheet l m (suc k) (x .state) (x .memory) ts)
 
 -- a replay ends where another can start

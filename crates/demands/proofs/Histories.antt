@@ -2,7 +2,6 @@
 use mathlib.Core.Path.{_≡_, refl, ap, _∙_}
 use mathlib.Core.List.{List, _∷_}
 use Prim.Native.Nat.{ℕ}
-use Rattle.slave.specs.Answers.{told}
 use Rattle.slave.specs.Exchange.{Left, left}
 use Rattle.demands.specs.Sequences.{Call, Reset, Enable, Exchange, Replay, callOf, runOf, Meets, History, start, next}
 
@@ -15,7 +14,7 @@ met sheet state memory Enable l m =
     λ i. left (m .0 i .answer) (m .0 i .state) (m .1 i) (m .2 i)
 met sheet state memory (Exchange command reply) l m = m
 met sheet state memory (Replay trace) l m =
-    λ i. left (told (m .0 i .answer .number) (m .0 i .answer .place)) (m .0 i .state) (m .0 i .memory) (m .1 i)
+    λ i. left (m .0 i .answer) (m .0 i .state) (m .0 i .memory) (m .1 i)
 
 pub history-is-run : (sheet : List ℕ) {state memory : List ℕ} {cs : List Call} {ls : List Left} → History sheet state memory cs ls
     → ls ≡ runOf sheet state memory cs

@@ -23,7 +23,7 @@ use Rattle.slave.specs.Exchange.{Left, exchanged, exchangeOf}
 use Rattle.slave.proofs.Order.{on-valid, on-state}
 use Rattle.replay.specs.Replay.{Replayed, replayed, replayOf}
 use Rattle.replay.specs.Trace.{Traced, recordSize, recordsOf}
-use Rattle.replay.specs.declared.told.Told.{Told}
+use Rattle.slave.specs.declared.answers.Answer.{Answer}
 use Rattle.replay.proofs.Forms.{checked-short}
 use Rattle.replay.proofs.Steps.{is-exchanged}
 use Rattle.law.proofs.Complete.{complete}
@@ -41,7 +41,7 @@ pub replay-plays : ReplayPlays
 unfolding replayOf
 replay-plays sheet state memory trace lay st p short formed =
     on-valid _ _ _ _ (p .valid) ∙ on-state _ _ _ _ (p .held)
-    ∙ pick-same _ _ (p .whole) ∙ pick-ne _ _ (p .on) ∙ pick-same _ _ (ap (λ (x : Told). x .number) (checked-short (lay .l) trace short) ∙ formed)
+    ∙ pick-same _ _ (p .whole) ∙ pick-ne _ _ (p .on) ∙ pick-same _ _ (ap (λ (x : Answer). x .number) (checked-short (lay .l) trace short) ∙ formed)
 
 -- an exchange of a whole record is answered, and leaves such a start again
 module _ (sheet state memory command reply : List ℕ) (lay : Layout) (st : LinkState) (p : Playable sheet state memory lay st)
@@ -100,7 +100,7 @@ module _ (m₁ m₂ : List ℕ) where
   by-held Invalid p q = p
 
   -- a refusal writes nothing
-  refused : (answer : Told) (state : List ℕ) → Alike m₁ m₂ (replayed answer state m₁) (replayed answer state m₂)
+  refused : (answer : Answer) (state : List ℕ) → Alike m₁ m₂ (replayed answer state m₁) (replayed answer state m₂)
   refused answer state = record { answers = refl; states = refl; kept = λ i e. e }
 
 pub secrets-in-whole-replay : SecretsInWholeReplay

@@ -12,7 +12,8 @@ use Rattle.law.specs.Sheet.{Sheet, WellFormed, IsOctet, sheetOctets, room}
 use Rattle.slave.specs.Wanted.{differsAt}
 use Rattle.slave.proofs.Differs.{differs-most}
 use Rattle.replay.specs.Replay.{Replayed, playOf}
-use Rattle.replay.specs.Trace.{Traced, says}
+use Rattle.replay.specs.Trace.{Traced}
+use Rattle.slave.specs.Answers.{told}
 use Rattle.demands.specs.Hidden.{Readable, Seen}
 use Rattle.demands.specs.Replays.{RepliesOf, SecretsInReplay, OnlyAgreeingReach}
 use Rattle.demands.specs.Writes.{Wrote, ours, agreeing, ReachedIn}
@@ -82,7 +83,7 @@ module _ (h : Sheet) (good : WellFormed h) (l : ℕ) where
       (sym (pick-ne _ _ (λ q. n (q ∙ w .0)))) (sym (pick-ne _ _ (λ q. n (d ∙ q ∙ w .0))))
       (subst₂ (λ (r q : Replayed). PlayedAlike h E state m₁ [] [] r q) (sym (play-over sheet state m₁ l k t ts h₁)) (sym (play-over sheet state m₂ l k t ts h₂))
       (record {
-        answers = ap (λ (i : ℕ). says 34 (64 * k + i)) d;
+        answers = ap (λ (i : ℕ). told 34 (64 * k + i)) d;
         states = refl;
         fronts = refl;
         whole₁ = w₁;

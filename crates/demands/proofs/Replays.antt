@@ -14,7 +14,8 @@ use Rattle.octets.proofs.Pick.{pick-yes, pick-no, pick-lt, pick-ge, pick-eq, pi
 use Rattle.slave.specs.Wanted.{differsAt, steppedOf}
 use Rattle.slave.proofs.Differs.{differs-most}
 use Rattle.replay.specs.Replay.{Replayed, replayed, onStep, playOf}
-use Rattle.replay.specs.Trace.{Traced, says}
+use Rattle.replay.specs.Trace.{Traced}
+use Rattle.slave.specs.Answers.{told}
 use Rattle.demands.specs.Replays.{RepliesOf}
 use Rattle.demands.specs.Writes.{ours, agreeing}
 use Rattle.demands.proofs.Lengths.{reply-keeps}
@@ -78,7 +79,7 @@ module _ (sheet state memory : List ℕ) (l k : ℕ) (t : Traced) (ts : List Tra
       let q = pick-yes _ _ (eq-eqb place l e) in
       ap (λ x. onStep l k x (λ s m. playOf sheet l (suc k) s m ts)) q ∙ pick-ge _ _ h
 
-  pub play-over : place < l → playOf sheet l k state memory (t ∷ ts) ≡ replayed (says 34 (64 * k + place)) state memory
+  pub play-over : place < l → playOf sheet l k state memory (t ∷ ts) ≡ replayed (told 34 (64 * k + place)) state memory
   unfolding playOf onStep steppedOf
   play-over h =
       let q = pick-no _ _ (ne-eqb place l (λ e. let z : ⊥ = omega arith in z)) in
@@ -86,11 +87,11 @@ module _ (sheet state memory : List ℕ) (l k : ℕ) (t : Traced) (ts : List Tra
 
 -- a replay as what happened at each of its records: the agreeing ones, and what it left
 pub data Played (sheet : List ℕ) (l : ℕ) : ℕ → List ℕ → List ℕ → List Traced → List Traced → Replayed → Type 0 where
-  ended : {k : ℕ} {state memory : List ℕ} → Played sheet l k state memory [] [] (replayed (says 0 k) state memory)
+  ended : {k : ℕ} {state memory : List ℕ} → Played sheet l k state memory [] [] (replayed (told 0 k) state memory)
   differed : {k : ℕ} {state memory : List ℕ} {t : Traced} {ts : List Traced}
       → length (t .reply) ≡ l → differsAt (ours sheet state memory t .reply) (t .reply) < l
       → Played sheet l k state memory (t ∷ ts) []
-      (replayed (says 34 (64 * k + differsAt (ours sheet state memory t .reply) (t .reply))) state memory)
+      (replayed (told 34 (64 * k + differsAt (ours sheet state memory t .reply) (t .reply))) state memory)
   agreed : {k : ℕ} {state memory : List ℕ} {t : Traced} {ts front : List Traced} {r : Replayed}
       → ours sheet state memory t .reply ≡ t .reply
       → Played sheet l (suc k) (ours sheet state memory t .state) (ours sheet state memory t .memory) ts front r

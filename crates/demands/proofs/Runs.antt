@@ -24,9 +24,9 @@ use Rattle.slave.specs.Exchange.{exchangeOf}
 use Rattle.slave.specs.Wanted.{Stepped, steppedOf}
 use Rattle.slave.proofs.Order.{on-valid, on-invalid, on-state}
 use Rattle.replay.specs.Replay.{Replayed, replayed, onStep, playOf, replayOf}
-use Rattle.replay.specs.Trace.{Traced, says, recordSize, faultOf, recordAt, formed, formFrom, checkedForm, tracedOf}
+use Rattle.replay.specs.Trace.{Traced, recordSize, faultOf, recordAt, formed, formFrom, checkedForm, tracedOf}
 use Rattle.replay.specs.declared.form.Record.{Record}
-use Rattle.replay.specs.declared.told.Told.{Told}
+use Rattle.slave.specs.declared.answers.Answer.{Answer}
 use Rattle.demands.specs.Hidden.{Readable, Seen, seen, Demand3}
 use Rattle.demands.specs.Refused.{RefusedChangesNothing, ValidRecord, EachState, StatesStayValid}
 use Rattle.demands.specs.Sequences.{Call, Reset, Enable, Exchange, Replay, withoutReply, callOf, runOf, lastMemory}
@@ -114,14 +114,14 @@ form-no-34 l trace k (suc n) =
 
 checked-no-34 : (l : ℕ) (trace : List ℕ) → checkedForm l trace .number ≡ 34 → ⊥
 unfolding checkedForm
-checked-no-34 l trace = pick-both (λ (t : Told). t .number ≡ 34 → ⊥) _ (λ e. let k : ⊥ = omega arith in k) (form-no-34 l trace 0 (suc (length trace)))
+checked-no-34 l trace = pick-both (λ (t : Answer). t .number ≡ 34 → ⊥) _ (λ e. let k : ⊥ = omega arith in k) (form-no-34 l trace 0 (suc (length trace)))
 
 -- a replay that plays its records on one memory plays them on any of the same length
 module _ (h : Sheet) (w : WellFormed h) (state m₁ m₂ trace : List ℕ) (w₁ : length m₁ ≡ room (h .regions)) (w₂ : length m₂ ≡ room (h .regions)) where
   abbrev ts : List Traced
   ts = tracedOf (h .l) trace
 
-  refuses : (a : Told) → replayOf (sheetOctets h) state m₁ trace ≡ replayed a state m₁ → (a .number ≡ 0 → ⊥) → (a .number ≡ 34 → ⊥)
+  refuses : (a : Answer) → replayOf (sheetOctets h) state m₁ trace ≡ replayed a state m₁ → (a .number ≡ 0 → ⊥) → (a .number ≡ 34 → ⊥)
       → replayOf (sheetOctets h) state m₁ trace ≡ playOf (sheetOctets h) (h .l) 0 state m₁ ts → ⊥
   refuses a e none difference p =
       let same : playOf (sheetOctets h) (h .l) 0 state m₁ ts .answer .number ≡ a .number = ap (λ (r : Replayed). r .answer .number) (sym p ∙ e) in
@@ -134,11 +134,11 @@ module _ (h : Sheet) (w : WellFormed h) (state m₁ m₂ trace : List ℕ) (w₁
     where
       go : (s : Stored) → stateOf state (h .l) ≡ s → replayOf (sheetOctets h) state m₂ trace ≡ playOf (sheetOctets h) (h .l) 0 state m₂ ts
       go Invalid s =
-          absurd (refuses (says 1 0) (on-valid _ _ _ _ (complete h w) ∙ on-invalid _ _ _ s) (λ e. let k : ⊥ = omega arith in k) (λ e. let k : ⊥ = omega arith in k) p)
+          absurd (refuses (told 1 0) (on-valid _ _ _ _ (complete h w) ∙ on-invalid _ _ _ s) (λ e. let k : ⊥ = omega arith in k) (λ e. let k : ⊥ = omega arith in k) p)
       go (State st) s =
           ⊎-elim
           (λ (z : st .link ≡ 0).
-          absurd (refuses (says 5 0) (on-valid _ _ _ _ (complete h w) ∙ on-state _ _ _ _ s ∙ pick-same _ _ w₁ ∙ pick-eq _ _ z) (λ e. let k : ⊥ = omega arith in k) (λ e. let k : ⊥ = omega arith in k) p))
+          absurd (refuses (told 5 0) (on-valid _ _ _ _ (complete h w) ∙ on-state _ _ _ _ s ∙ pick-same _ _ w₁ ∙ pick-eq _ _ z) (λ e. let k : ⊥ = omega arith in k) (λ e. let k : ⊥ = omega arith in k) p))
           (λ (z : st .link ≡ 0 → ⊥).
           ⊎-elim
           (λ (f : checkedForm (h .l) trace .number ≡ 0). on-valid _ _ _ _ (complete h w) ∙ on-state _ _ _ _ s ∙ pick-same _ _ w₂ ∙ pick-ne _ _ z ∙ pick-same _ _ f)

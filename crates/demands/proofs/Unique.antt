@@ -2,9 +2,9 @@
 use mathlib.Core.Path.{_≡_, sym, ap, _∙_}
 use Prim.Native.Nat.{ℕ}
 use mathlib.Core.List.{List}
-use Rattle.slave.specs.Wanted.{Stepped, stepped, Performed, performed}
+use Rattle.slave.specs.Wanted.{stepped, Performed, performed}
 use Rattle.replay.specs.Replay.{Replayed, replayed}
-use Rattle.replay.specs.declared.told.Told.{Told}
+use Rattle.slave.specs.declared.answers.Answer.{Answer}
 use Rattle.slave.specs.Calls.{After, after}
 use Rattle.slave.specs.Exchange.{Left, left}
 use Rattle.type24.specs.Packed.{PackedAfter, packedAfter, PackedLeft, packedLeft, PackedReplay, packedReplay}
@@ -56,12 +56,7 @@ of-performed defined d e s t m n o p a b =
       ap (λ (x : Performed). x .reply) q,
     )
 
-of-stepped : (defined : Stepped) (d e : ℕ) (s t m n : List ℕ) → stepped d s m ≡ defined → stepped e t n ≡ defined → (d ≡ e) × (s ≡ t) × (m ≡ n)
-of-stepped defined d e s t m n a b =
-    let q = one-answer Stepped (stepped d s m) (stepped e t n) defined a b in
-    (ap (λ (x : Stepped). x .at) q, ap (λ (x : Stepped). x .state) q, ap (λ (x : Stepped). x .memory) q)
-
-of-replayed : (defined : Replayed) (r q : Told) (s t m n : List ℕ) → replayed r s m ≡ defined → replayed q t n ≡ defined → (r ≡ q) × (s ≡ t) × (m ≡ n)
+of-replayed : (defined : Replayed) (r q : Answer) (s t m n : List ℕ) → replayed r s m ≡ defined → replayed q t n ≡ defined → (r ≡ q) × (s ≡ t) × (m ≡ n)
 of-replayed defined r q s t m n a b =
     let e = one-answer Replayed (replayed r s m) (replayed q t n) defined a b in
     (ap (λ (x : Replayed). x .answer) e, ap (λ (x : Replayed). x .state) e, ap (λ (x : Replayed). x .memory) e)
@@ -79,6 +74,6 @@ one-answers = record {
   slave-enable = λ sheet state r q s t a b. of-after _ r q s t a b;
   slave-exchange = λ sheet state memory command reply r q s t m n o p a b. of-left _ r q s t m n o p a b;
   slave-perform = λ sheet lay st state memory command wanted d e s t m n o p a b. of-performed _ d e s t m n o p a b;
-  replay-step = λ l state memory wanted x d e s t m n a b. of-stepped _ d e s t m n a b;
+  replay-step = λ sheet l state memory room command reply d e s t m n o p a b. of-performed _ d e s t m n o p a b;
   replay-replay = λ sheet state memory trace r q s t m n a b. of-replayed _ r q s t m n a b;
 }

@@ -16,7 +16,7 @@ use Rattle.law.specs.Sheet.{Sheet, WellFormed, IsOctet, sheetOctets}
 use Rattle.slave.specs.Answers.{told}
 use Rattle.slave.specs.Exchange.{Left}
 use Rattle.replay.specs.Replay.{Replayed, replayed, playOf, replayOf}
-use Rattle.replay.specs.Trace.{Traced, says, formOf, recordSize, recordsOf, tracedOf}
+use Rattle.replay.specs.Trace.{Traced, formOf, recordSize, recordsOf, tracedOf}
 use Rattle.demands.specs.Hidden.{DifferOnlyHidden}
 use Rattle.demands.specs.Sequences.{Call, Exchange, runOf, lastState, lastMemory}
 use Rattle.demands.specs.Writes.{ours, agreeing, ReachedIn}
@@ -78,7 +78,7 @@ abbrev pub AgreesExactly : Type 0
 AgreesExactly =
     (sheet state memory : List ℕ) (l k : ℕ) (ts : List Traced) → RepliesOf l ts
     → (playOf sheet l k state memory ts .answer .number ≡ 0 → runReplies (runOf sheet state memory (callsOf ts)) ≡ traceReplies ts)
-    × (runReplies (runOf sheet state memory (callsOf ts)) ≡ traceReplies ts → playOf sheet l k state memory ts .answer ≡ says 0 (k + length ts))
+    × (runReplies (runOf sheet state memory (callsOf ts)) ≡ traceReplies ts → playOf sheet l k state memory ts .answer ≡ told 0 (k + length ts))
 
 -- the first difference: the record behind the agreeing ones, from the state and memory that stand before it
 pub record FirstDifference (sheet state memory : List ℕ) (k place : ℕ) (front ts : List Traced) : Type 0 where
@@ -127,11 +127,11 @@ abbrev pub FormsJoin : Type 0
 FormsJoin =
     (l m : ℕ) (t u : List ℕ) → length t ≡ m * recordSize l → formOf l t .number ≡ 0
     → (formOf l u .number ≡ 0 → formOf l (t ++ u) .number ≡ 0)
-    × ((formOf l u .number ≡ 0 → ⊥) → formOf l (t ++ u) ≡ says (formOf l u .number) (m * recordSize l + formOf l u .place))
+    × ((formOf l u .number ≡ 0 → ⊥) → formOf l (t ++ u) ≡ told (formOf l u .number) (m * recordSize l + formOf l u .place))
 
 -- a replay told with its record m further: 0 has the number of records as its place, and 34 has 64 times the record's number in it
 abbrev pub further : ℕ → Replayed → Replayed
-further m r = replayed (says (r .answer .number) (r .answer .place + pick (eqb (r .answer .number) 0) m (64 * m))) (r .state) (r .memory)
+further m r = replayed (told (r .answer .number) (r .answer .place + pick (eqb (r .answer .number) 0) m (64 * m))) (r .state) (r .memory)
 
 -- the whole replay cut in two: where that of the first part t told 0, that of both is that of u from where t's ended, told m records further; where it
 -- told 34, that of both is t's

@@ -4,8 +4,6 @@ use Prim.Native.Nat.{ℕ}
 use mathlib.Core.List.{List, [], _∷_}
 use mathlib.Core.Path.{_≡_}
 use Rattle.replay.specs.Replay.{Replayed, replayed, replayOf}
-use Rattle.replay.specs.Trace.{says}
-use Rattle.slave.specs.Answers.{told}
 use Rattle.slave.specs.Calls.{After, after, resetOf, enableOf}
 use Rattle.slave.specs.Exchange.{Left, left, exchangeOf}
 
@@ -22,7 +20,7 @@ beside memory a = left (a .answer) (a .state) memory []
 
 -- what a call of replay leaves: no reply is lent to it
 abbrev pub withoutReply : Replayed → Left
-withoutReply r = left (told (r .answer .number) (r .answer .place)) (r .state) (r .memory) []
+withoutReply r = left (r .answer) (r .state) (r .memory) []
 
 -- what the defined call leaves, of a state of any octets and a memory
 unfoldable pub callOf : List ℕ → List ℕ → List ℕ → Call → Left
@@ -53,7 +51,7 @@ Meets sheet state memory Enable l = (after (l .answer) (l .state) ≡ enableOf s
 Meets sheet state memory (Exchange command reply) l =
     left (l .answer) (l .state) (l .memory) (l .reply) ≡ exchangeOf sheet state memory command reply
 Meets sheet state memory (Replay trace) l =
-    (replayed (says (l .answer .number) (l .answer .place)) (l .state) (l .memory) ≡ replayOf sheet state memory trace) × (l .reply ≡ [])
+    (replayed (l .answer) (l .state) (l .memory) ≡ replayOf sheet state memory trace) × (l .reply ≡ [])
 
 -- a host's history: each call met its promise on what the calls before it had left
 pub data History (sheet : List ℕ) : List ℕ → List ℕ → List Call → List Left → Type 0 where

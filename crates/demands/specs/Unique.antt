@@ -8,11 +8,10 @@ use Rattle.sheet.specs.Walk.{verdictOf}
 use Rattle.sheet.specs.declared.walk.Layout.{Layout}
 use Rattle.slave.specs.Answers.{sheetAnswer}
 use Rattle.slave.specs.Calls.{after, resetOf, enableOf}
-use Rattle.slave.specs.Exchange.{Left, left, exchanged, exchangeOf}
-use Rattle.slave.specs.Wanted.{stepped, steppedOf, performed, performedOf}
+use Rattle.slave.specs.Exchange.{left, exchanged, exchangeOf}
+use Rattle.slave.specs.Wanted.{stepped, performed, performedOf}
 use Rattle.slave.specs.declared.answers.Answer.{Answer}
-use Rattle.replay.specs.Replay.{replayed, replayOf}
-use Rattle.replay.specs.declared.told.Told.{Told}
+use Rattle.replay.specs.Replay.{recordLeaves, replayed, replayOf}
 use Rattle.type24.specs.Packed.{packed, packedAfter, afterCall, packedLeft, leftByCall, lengthsOf, packedReplay, byReplay}
 
 -- the law: two values that equal one definition are equal
@@ -74,17 +73,18 @@ OnePerform =
     → performed (stepped e t n) p ≡ performedOf wanted state memory (exchanged sheet lay st memory command)
     → (d ≡ e) × (s ≡ t) × (m ≡ n) × (o ≡ p)
 
--- replay::step::one, whose promise has the state and the memory
+-- replay::step::one: the same of one record, and the lent room
 abbrev pub OneStep : Type 0
 OneStep =
-    (l : ℕ) (state memory wanted : List ℕ) (x : Left) (d e : ℕ) (s t m n : List ℕ)
-    → stepped d s m ≡ steppedOf l state memory wanted x → stepped e t n ≡ steppedOf l state memory wanted x
-    → (d ≡ e) × (s ≡ t) × (m ≡ n)
+    (sheet : List ℕ) (l : ℕ) (state memory room command reply : List ℕ) (d e : ℕ) (s t m n o p : List ℕ)
+    → performed (stepped d s m) o ≡ recordLeaves sheet l state memory room command reply
+    → performed (stepped e t n) p ≡ recordLeaves sheet l state memory room command reply
+    → (d ≡ e) × (s ≡ t) × (m ≡ n) × (o ≡ p)
 
 -- replay::playing::replay
 abbrev pub OneReplay : Type 0
 OneReplay =
-    (sheet state memory trace : List ℕ) (r q : Told) (s t m n : List ℕ)
+    (sheet state memory trace : List ℕ) (r q : Answer) (s t m n : List ℕ)
     → replayed r s m ≡ replayOf sheet state memory trace → replayed q t n ≡ replayOf sheet state memory trace
     → (r ≡ q) × (s ≡ t) × (m ≡ n)
 

@@ -156,7 +156,7 @@ fn play_piece(
         print_progress(before, after, b" records agree\n");
         return going(after);
     }
-    if told.number == replay::told::DIFFERS {
+    if told.number == replay::numbers::DIFFERS {
         print_record(sheet, state, memory, piece, l, told.place, before);
         return ended(false, before);
     }

@@ -19,9 +19,10 @@ use Rattle.link.proofs.Back.{read-back}
 use Rattle.machine.specs.Outcomes.{outcomeOf}
 use Rattle.machine.proofs.Nexts.{outcome-valid, outcome-on}
 use Rattle.replay.specs.Replay.{Replayed, replayed, onStep, playOf, replayOf}
-use Rattle.replay.specs.Trace.{says, checkedForm, tracedOf}
+use Rattle.replay.specs.Trace.{checkedForm, tracedOf}
+use Rattle.slave.specs.Answers.{told}
 use Rattle.replay.specs.Trace as machine
-use Rattle.replay.specs.declared.told.Told.{Told}
+use Rattle.slave.specs.declared.answers.Answer.{Answer}
 use Rattle.replay.proofs.Forms.{checked-short}
 use Rattle.replay.proofs.Steps.{is-exchanged}
 use Rattle.slave.specs.Exchange.{exchanged, exchangeOf}
@@ -139,28 +140,28 @@ module _ (h : Sheet) (w : WellFormed h) where
       ≡ playedForm h s m form
   form-same trace s m ready short (records ts) f =
       let e = checked-short (h .l) trace short ∙ form-clean (h .l) (w .l) trace ts f in
-      ap leavesReplay (pick-same _ _ (ap (λ (x : Told). x .number) e))
+      ap leavesReplay (pick-same _ _ (ap (λ (x : Answer). x .number) e))
       ∙ ap (λ (x : List machine.Traced). leavesReplay (playOf (sheetOctets h) (h .l) 0 s m x)) (form-records (h .l) (w .l) trace ts f)
       ∙ play-same ts 0 s m ready (f .0)
   form-same trace s m ready short (fault n place) f =
       let q = form-faulty (h .l) (w .l) trace n place f in
       let e = checked-short (h .l) trace short ∙ q .0 in
-      ap leavesReplay (pick-differ _ _ (λ z. q .1 (sym (ap (λ (x : Told). x .number) e) ∙ z)))
-      ∙ ap (λ (x : Told). leavesReplay (replayed x s m)) e
+      ap leavesReplay (pick-differ _ _ (λ z. q .1 (sym (ap (λ (x : Answer). x .number) e) ∙ z)))
+      ∙ ap (λ (x : Answer). leavesReplay (replayed x s m)) e
 
   long-same : (trace s m : List ℕ) (rest : Replayed) → 1073741823 < length trace
       → leavesReplay (pick (not (eqb (checkedForm (h .l) trace .number) 0)) (replayed (checkedForm (h .l) trace) s m) rest) ≡ result 35 0 s m []
   unfolding checkedForm
   long-same trace s m rest long =
-      let e : checkedForm (h .l) trace ≡ says 35 0 = pick-lt _ _ long in
-      ap leavesReplay (pick-differ _ _ (λ z. let k : 35 ≡ 0 = sym (ap (λ (x : Told). x .number) e) ∙ z in let u : ⊥ = omega arith in u))
-      ∙ ap (λ (x : Told). leavesReplay (replayed x s m)) e
+      let e : checkedForm (h .l) trace ≡ told 35 0 = pick-lt _ _ long in
+      ap leavesReplay (pick-differ _ _ (λ z. let k : 35 ≡ 0 = sym (ap (λ (x : Answer). x .number) e) ∙ z in let u : ⊥ = omega arith in u))
+      ∙ ap (λ (x : Answer). leavesReplay (replayed x s m)) e
 
   -- what stands behind the state record
   abbrev behind : List ℕ → List ℕ → List ℕ → LinkState → Replayed
   behind s m trace st =
-      pick (not (eqb (length m) (room (h .regions)))) (replayed (says 2 0) s m)
-      (pick (eqb (st .link) 0) (replayed (says 5 0) s m)
+      pick (not (eqb (length m) (room (h .regions)))) (replayed (told 2 0) s m)
+      (pick (eqb (st .link) 0) (replayed (told 5 0) s m)
       (pick (not (eqb (checkedForm (h .l) trace .number) 0)) (replayed (checkedForm (h .l) trace) s m)
       (playOf (sheetOctets h) (h .l) 0 s m (tracedOf (h .l) trace))))
 

@@ -13,9 +13,10 @@ use lib.ListN.{length, getD, take, drop, length-append, length-drop, take-append
 use lib.Seq.{drop-drop, drop-at, take-at, drop-cons}
 use Rattle.octets.specs.Parts.{part}
 use Rattle.octets.proofs.Overlaid.{part-length}
-use Rattle.replay.specs.Trace.{traced, says, recordSize, faultOf, formFrom, formOf, recordsOf, tracedOf}
+use Rattle.replay.specs.Trace.{traced, recordSize, faultOf, formFrom, formOf, recordsOf, tracedOf}
+use Rattle.slave.specs.Answers.{told}
 use Rattle.replay.specs.Trace as machine
-use Rattle.replay.specs.declared.told.Told.{Told}
+use Rattle.slave.specs.declared.answers.Answer.{Answer}
 use Rattle.replay.proofs.Forms.{form-end, form-bad, form-on}
 use Rattle.replay.proofs.Plays.{traced-all}
 use Rattle.law.specs.Words.{Every, joined}
@@ -109,24 +110,24 @@ module _ (l : ℕ) where
           (fault-none l five (drop at trace) (ap (λ (x : List ℕ). getD x 0 0) e) (omega arith))
 
       clean-from : (ts : List Traced) (k n : ℕ) → Every (Whole l) ts → drop (k * recordSize l) trace ≡ joined (tracedOctets l) ts ++ []
-          → length ts < n → formFrom l trace k n ≡ says 0 0
+          → length ts < n → formFrom l trace k n ≡ told 0 0
       clean-from ts k zero all e h = absurd (let w : ⊥ = omega arith in w)
       clean-from [] k (suc n) all e h = form-end l trace k (suc n) (let d = sym (length-drop (k * recordSize l) trace) ∙ ap length e in omega arith)
       clean-from (t ∷ ts) k (suc n) all e h =
           goes-on k n t ts [] (all .0) e ∙ clean-from ts (suc k) n (all .1) (next-record k t ts [] (all .0) e) (omega arith)
 
       faulty-from : (ts : List Traced) (rest : List ℕ) (f k n : ℕ) → Every (Whole l) ts → drop (k * recordSize l) trace ≡ joined (tracedOctets l) ts ++ rest
-          → 1 ≤ length rest → TracedFault l rest f → length ts < n → formFrom l trace k n ≡ says f ((k + length ts) * recordSize l)
+          → 1 ≤ length rest → TracedFault l rest f → length ts < n → formFrom l trace k n ≡ told f ((k + length ts) * recordSize l)
       faulty-from ts rest f k zero all e some bad h = absurd (let w : ⊥ = omega arith in w)
       faulty-from [] rest f k (suc n) all e some bad h =
           let d = sym (length-drop (k * recordSize l) trace) ∙ ap length e in
           let b = fault-back l five rest f bad in
           form-bad l trace k n (omega arith) f (ap (faultOf l) e ∙ b .0) (b .1)
-          ∙ ap (λ (i : ℕ). says f (i * recordSize l)) (let z : k ≡ k + 0 = omega arith in z)
+          ∙ ap (λ (i : ℕ). told f (i * recordSize l)) (let z : k ≡ k + 0 = omega arith in z)
       faulty-from (t ∷ ts) rest f k (suc n) all e some bad h =
           goes-on k n t ts rest (all .0) e
           ∙ faulty-from ts rest f (suc k) n (all .1) (next-record k t ts rest (all .0) e) some bad (omega arith)
-          ∙ ap (λ (i : ℕ). says f (i * recordSize l)) (let z : suc k + length ts ≡ k + suc (length ts) = omega arith in z)
+          ∙ ap (λ (i : ℕ). told f (i * recordSize l)) (let z : suc k + length ts ≡ k + suc (length ts) = omega arith in z)
 
       long : (ts : List Traced) (rest : List ℕ) → Every (Whole l) ts → length (joined (tracedOctets l) ts ++ rest) ≡ recordSize l * length ts + length rest
       long ts rest all = length-joined (tracedOctets l) (Whole l) (recordSize l) whole-long ts rest all
@@ -137,20 +138,20 @@ module _ (l : ℕ) where
           le-mul : (n k : ℕ) → n ≤ (1 + k) * n
           le-mul n k = let s = suc-mul k n in let z : 1 + k ≡ suc k = omega arith in subst (λ (i : ℕ). n ≤ i * n) (sym z) (omega arith)
 
-      pub form-clean : (ts : List Traced) → HasForm l trace (records ts) → formOf l trace ≡ says 0 0
+      pub form-clean : (ts : List Traced) → HasForm l trace (records ts) → formOf l trace ≡ told 0 0
       form-clean ts (all, e) =
           let e₀ : trace ≡ joined (tracedOctets l) ts ++ [] = e ∙ sym (append-nil (joined (tracedOctets l) ts)) in
           let a = ap length e₀ ∙ long ts [] all in
           let b = few ts in
           clean-from ts 0 (suc (length trace)) all (from-front trace ∙ e₀) (omega arith)
 
-      pub form-faulty : (f place : ℕ) → HasForm l trace (fault f place) → (formOf l trace ≡ says f place) × (f ≡ 0 → ⊥)
+      pub form-faulty : (f place : ℕ) → HasForm l trace (fault f place) → (formOf l trace ≡ told f place) × (f ≡ 0 → ⊥)
       form-faulty f place (ts, rest, all, e, here, some, bad) =
           let a = ap length e ∙ long ts rest all in
           let b = few ts in
           let c = mul-comm (length ts) (recordSize l) in (
             faulty-from ts rest f 0 (suc (length trace)) all (from-front trace ∙ e) some bad (omega arith)
-                ∙ ap (says f) (let z : (0 + length ts) * recordSize l ≡ length ts * recordSize l = ap (λ (i : ℕ). i * recordSize l) (let y : 0 + length ts ≡ length ts = omega arith in y) in z ∙ (let y : length ts * recordSize l ≡ place = omega arith in y)),
+                ∙ ap (told f) (let z : (0 + length ts) * recordSize l ≡ length ts * recordSize l = ap (λ (i : ℕ). i * recordSize l) (let y : 0 + length ts ≡ length ts = omega arith in y) in z ∙ (let y : length ts * recordSize l ≡ place = omega arith in y)),
             fault-back l five rest f bad .1,
           )
 
@@ -180,8 +181,8 @@ module _ (l : ℕ) where
         traced-all l (length ts) trace (omega arith) ∙ ap (recordsOf l (length ts)) e₀ ∙ cut-all ts [] all
 
     -- what is told of a form
-    same-told : {a b c d : ℕ} → says a b ≡ says c d → (a ≡ c) × (b ≡ d)
-    same-told e = (ap (λ (t : Told). t .number) e, ap (λ (t : Told). t .place) e)
+    same-told : {a b c d : ℕ} → told a b ≡ told c d → (a ≡ c) × (b ≡ d)
+    same-told e = (ap (λ (t : Answer). t .number) e, ap (λ (t : Answer). t .place) e)
 
     back : (ts : List Traced) → map (λ (t : machine.Traced). record { command = t .command; reply = t .reply }) (map asTraced ts) ≡ ts
     back [] = refl

@@ -6,7 +6,7 @@ use mathlib.Core.Bool.{not}
 use mathlib.Core.List.{List}
 use mathlib.Core.Logic.{⊎-elim}
 use mathlib.Core.Path.{_≡_, refl, sym, ap, _∙_}
-use Prim.Native.Nat.{ℕ, zero, suc, _+_, _-_, _*_, _<_, _≤_}
+use Prim.Native.Nat.{ℕ, zero, suc, _+_, _*_, _<_, _≤_}
 use native.Mathlib.Nat.{suc-mul}
 use native.Mathlib.Omega.{arith}
 use borrow.Author.Tests.{ltb-false, le-leb, lt-leb, eq-eqb, ne-eqb}
@@ -14,9 +14,10 @@ use lib.Dec.{eqb, ltb}
 use lib.ListN.{length, getD, drop, length-drop}
 use Rattle.octets.proofs.Cases.{lt-or-le, eq-or-ne}
 use Rattle.octets.proofs.Pick.{pick-yes, pick-no, pick-lt, pick-ge, passed}
-use Rattle.replay.specs.Trace.{kindLength, recordSize, faultOf, recordAt, says, formed, faultIn, formFrom, formOf, checkedForm}
+use Rattle.replay.specs.Trace.{kindLength, recordSize, faultOf, recordAt, formed, faultIn, formFrom, formOf, checkedForm}
+use Rattle.slave.specs.Answers.{told}
 use Rattle.replay.specs.declared.form.Record.the-variants.{End, Whole, Bad}
-use Rattle.replay.specs.declared.told.Told.{Told}
+use Rattle.slave.specs.declared.answers.Answer.{Answer}
 
 module _ (l : ℕ) (trace : List ℕ) (at : ℕ) where
   at-end : length trace ≤ at → recordAt l trace at ≡ End
@@ -42,13 +43,13 @@ module _ (l : ℕ) (trace : List ℕ) (at : ℕ) where
         (eq-or-ne (faultOf l (drop at trace)) 0)
 
 module _ (l : ℕ) (trace : List ℕ) (k : ℕ) where
-  pub form-end : (n : ℕ) → length trace ≤ k * recordSize l → formFrom l trace k n ≡ says 0 0
+  pub form-end : (n : ℕ) → length trace ≤ k * recordSize l → formFrom l trace k n ≡ told 0 0
   unfolding formFrom formed
   form-end zero h = refl
   form-end (suc n) h = rw (at-end l trace (k * recordSize l) h)
 
   module _ (n : ℕ) (h : k * recordSize l < length trace) where
-    pub form-bad : (f : ℕ) → faultOf l (drop (k * recordSize l) trace) ≡ f → (f ≡ 0 → ⊥) → formFrom l trace k (suc n) ≡ says f (k * recordSize l)
+    pub form-bad : (f : ℕ) → faultOf l (drop (k * recordSize l) trace) ≡ f → (f ≡ 0 → ⊥) → formFrom l trace k (suc n) ≡ told f (k * recordSize l)
     unfolding formFrom formed
     form-bad f e z = rw (at-bad l trace (k * recordSize l) h (λ q. z (sym e ∙ q)), e)
 
@@ -76,8 +77,8 @@ whole-from l trace (suc n) k h f e =
     let s = suc-mul k (recordSize l) in
     let c = uncut l (drop (k * recordSize l) trace) z in
     let d = length-drop (k * recordSize l) trace in
-    whole-from l trace n (suc k) (omega arith) (omega arith) (ap (λ (t : Told). t .number) (sym (form-on l trace k n u z)) ∙ e))
-    (λ z. absurd (z (sym (ap (λ (t : Told). t .number) (form-bad l trace k n u _ refl z)) ∙ e)))
+    whole-from l trace n (suc k) (omega arith) (omega arith) (ap (λ (t : Answer). t .number) (sym (form-on l trace k n u z)) ∙ e))
+    (λ z. absurd (z (sym (ap (λ (t : Answer). t .number) (form-bad l trace k n u _ refl z)) ∙ e)))
     (eq-or-ne (faultOf l (drop (k * recordSize l) trace)) 0))
     (λ (u : length trace ≤ k * recordSize l). (k, omega arith))
     (lt-or-le (k * recordSize l) (length trace))
@@ -95,6 +96,6 @@ pub checked-whole : (l : ℕ) (trace : List ℕ) → checkedForm l trace .number
 unfolding checkedForm
 checked-whole l trace e =
     ⊎-elim
-    (λ (long : 1073741823 < length trace). absurd (let z : 35 ≡ 0 = ap (λ (x : Told). x .number) (sym (pick-lt _ _ long)) ∙ e in let k : ⊥ = omega arith in k))
-    (λ (short : length trace ≤ 1073741823). (short, form-whole l trace (ap (λ (x : Told). x .number) (sym (checked-short l trace short)) ∙ e)))
+    (λ (long : 1073741823 < length trace). absurd (let z : 35 ≡ 0 = ap (λ (x : Answer). x .number) (sym (pick-lt _ _ long)) ∙ e in let k : ⊥ = omega arith in k))
+    (λ (short : length trace ≤ 1073741823). (short, form-whole l trace (ap (λ (x : Answer). x .number) (sym (checked-short l trace short)) ∙ e)))
     (lt-or-le 1073741823 (length trace))

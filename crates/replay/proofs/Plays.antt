@@ -13,7 +13,8 @@ use Rattle.octets.proofs.Pick.{pick-lt, pick-ge}
 use Rattle.slave.specs.Exchange.{exchangeOf}
 use Rattle.slave.specs.Wanted.{Stepped, steppedOf}
 use Rattle.replay.specs.Replay.{replayed, onStep, playOf}
-use Rattle.replay.specs.Trace.{says, recordSize, recordsOf, tracedOf}
+use Rattle.replay.specs.Trace.{recordSize, recordsOf, tracedOf}
+use Rattle.slave.specs.Answers.{told}
 
 module _ (sheet trace : List ℕ) (l k at : ℕ) (state memory : List ℕ) (m : ℕ) (x : Stepped)
     (e : x ≡ steppedOf l state memory (part (drop at trace) (1 + l) l) (exchangeOf sheet state memory (part (drop at trace) 1 l) (part (drop at trace) (1 + l) l))) where
@@ -22,7 +23,7 @@ module _ (sheet trace : List ℕ) (l k at : ℕ) (state memory : List ℕ) (m : 
   unfolding playOf recordsOf
   opened = ap (λ (y : Stepped). onStep l k y (λ s n. playOf sheet l (suc k) s n (recordsOf l m (drop (recordSize l) (drop at trace))))) (sym e)
 
-  pub play-differs : x .at < l → playOf sheet l k state memory (recordsOf l (suc m) (drop at trace)) ≡ replayed (says 34 (64 * k + x .at)) (x .state) (x .memory)
+  pub play-differs : x .at < l → playOf sheet l k state memory (recordsOf l (suc m) (drop at trace)) ≡ replayed (told 34 (64 * k + x .at)) (x .state) (x .memory)
   unfolding onStep
   play-differs h = opened ∙ pick-lt _ _ h
 
@@ -45,7 +46,7 @@ traced-all l n trace e = ap (λ (m : ℕ). recordsOf l m trace) (ap (λ (m : ℕ
 
 -- where no octet is left, no record is
 pub play-end : (sheet trace : List ℕ) (l k at : ℕ) (state memory : List ℕ) (m : ℕ) → length trace ≡ at + m * recordSize l → length trace ≤ at
-    → playOf sheet l k state memory (recordsOf l m (drop at trace)) ≡ replayed (says 0 k) state memory
+    → playOf sheet l k state memory (recordsOf l m (drop at trace)) ≡ replayed (told 0 k) state memory
 unfolding playOf recordsOf
 play-end sheet trace l k at state memory zero e h = refl
 play-end sheet trace l k at state memory (suc p) e h =

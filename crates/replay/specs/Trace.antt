@@ -9,7 +9,8 @@ use Rattle.octets.specs.Parts.{part}
 use Rattle.octets.specs.Pick.{pick}
 use Rattle.replay.specs.declared.form.Record.{Record}
 use Rattle.replay.specs.declared.form.Record.the-variants.{End, Whole, Bad}
-use Rattle.replay.specs.declared.told.Told.{Told}
+use Rattle.slave.specs.Answers.{told}
+use Rattle.slave.specs.declared.answers.Answer.{Answer}
 
 -- the L of a kind; 0 for a kind that is none
 unfoldable pub kindLength : ℕ → ℕ
@@ -31,15 +32,11 @@ unfoldable pub recordAt : ℕ → List ℕ → ℕ → Record
 recordAt l trace at =
     pick (leb (length trace) at) End (pick (eqb (faultOf l (drop at trace)) 0) Whole (Bad (faultOf l (drop at trace))))
 
--- a number with its place
-abbrev pub says : ℕ → ℕ → Told
-says number place = record { number = number; place = place }
-
 -- what one record's form leads to: the end, the next record, or its fault with its place
-unfoldable pub formed : Record → ℕ → Told → Told
-formed End place next = says 0 0
+unfoldable pub formed : Record → ℕ → Answer → Answer
+formed End place next = told 0 0
 formed Whole place next = next
-formed (Bad fault) place next = says fault place
+formed (Bad fault) place next = told fault place
 
 -- the number of a fault; 0 where there is none
 unfoldable pub faultIn : Record → ℕ
@@ -48,17 +45,17 @@ faultIn Whole = 0
 faultIn (Bad fault) = fault
 
 -- the form of the n records from record k on; "the place is the record's first octet"
-unfoldable pub formFrom : ℕ → List ℕ → ℕ → ℕ → Told
-formFrom l trace k zero = says 0 0
+unfoldable pub formFrom : ℕ → List ℕ → ℕ → ℕ → Answer
+formFrom l trace k zero = told 0 0
 formFrom l trace k (suc n) = formed (recordAt l trace (k * recordSize l)) (k * recordSize l) (formFrom l trace (suc k) n)
 
 -- the form of the whole trace, which has at most as many records as octets
-abbrev pub formOf : ℕ → List ℕ → Told
+abbrev pub formOf : ℕ → List ℕ → Answer
 formOf l trace = formFrom l trace 0 (suc (length trace))
 
 -- the same of a trace of any length: one whose places would not fit an answer is 35
-unfoldable pub checkedForm : ℕ → List ℕ → Told
-checkedForm l trace = pick (ltb 1073741823 (length trace)) (says 35 0) (formOf l trace)
+unfoldable pub checkedForm : ℕ → List ℕ → Answer
+checkedForm l trace = pick (ltb 1073741823 (length trace)) (told 35 0) (formOf l trace)
 
 -- one record: what the fitter sent, and what came back
 pub record Traced : Type 0 where

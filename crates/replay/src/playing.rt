@@ -1,8 +1,8 @@
 // All records of a trace, and the refusals before them.
-use crate::told::Told;
 use link::stored::Stored;
 use sheet::walk::Layout;
 use sheet::walk::Verdict;
+use slave::answers::Answer;
 ghost use mathlib.Core.Path.{_≡_};
 ghost use Prim.Native.Nat.{ℕ, _*_, _≤_};
 ghost use lib.ListN.{length};
@@ -19,7 +19,7 @@ fn play(
     memory: &mut [u8],
     trace: &[u8],
     room: &mut [u8],
-) -> Told
+) -> Answer
     requires { ⌜ (verdictOf (now sheet) ≡ Valid layout) × (length (now memory) ≡ layout .memory) × (length (now room) ≡ layout .l) × (length (now trace) ≤ 1073741823) × ((n : ℕ) × (length (now trace) ≡ n * recordSize (layout .l))) ⌝ }
     ensures { λ r. ⌜ replayed r (now (state .exit)) (now (memory .exit)) ≡ playOf (now (sheet .entry)) (layout .l) 0 (now (state .entry)) (now (memory .entry)) (tracedOf (layout .l) (now (trace .entry))) ⌝ }
 {
@@ -29,22 +29,28 @@ fn play(
     while at < trace.len() {
         let d = crate::step::one(sheet, layout, state, memory, trace, at, room);
         if d < layout.l {
-            return Told {
-                number: crate::told::DIFFERS,
+            return Answer {
+                number: crate::numbers::DIFFERS,
                 place: 64 * k + d as u32,
             };
         }
         k += 1;
         at += size;
     }
-    Told {
+    Answer {
         number: 0,
         place: k,
     }
 }
 
 // The records in room of our own for one reply.
-fn play_all(sheet: &[u8], layout: Layout, state: &mut [u8], memory: &mut [u8], trace: &[u8]) -> Told
+fn play_all(
+    sheet: &[u8],
+    layout: Layout,
+    state: &mut [u8],
+    memory: &mut [u8],
+    trace: &[u8],
+) -> Answer
     requires { ⌜ (verdictOf (now sheet) ≡ Valid layout) × (length (now memory) ≡ layout .memory) × (length (now trace) ≤ 1073741823) × ((n : ℕ) × (length (now trace) ≡ n * recordSize (layout .l))) ⌝ }
     ensures { λ r. ⌜ replayed r (now (state .exit)) (now (memory .exit)) ≡ playOf (now (sheet .entry)) (layout .l) 0 (now (state .entry)) (now (memory .entry)) (tracedOf (layout .l) (now (trace .entry))) ⌝ }
 {
@@ -55,22 +61,22 @@ fn play_all(sheet: &[u8], layout: Layout, state: &mut [u8], memory: &mut [u8], t
 
 // A trace of any octets beside a sheet, a state record and a memory of any octets: the refusals first, then the form of the whole trace, then the
 // exchanges.
-pub fn replay(sheet: &[u8], state: &mut [u8], memory: &mut [u8], trace: &[u8]) -> Told
+pub fn replay(sheet: &[u8], state: &mut [u8], memory: &mut [u8], trace: &[u8]) -> Answer
     ensures { λ r. ⌜ replayed r (now (state .exit)) (now (memory .exit)) ≡ replayOf (now (sheet .entry)) (now (state .entry)) (now (memory .entry)) (now (trace .entry)) ⌝ }
 {
     let verdict = sheet::walk::check(sheet);
     let Verdict::Valid(layout) = verdict else {
-        return crate::told::from_answer(slave::answers::sheet_answer(verdict));
+        return slave::answers::sheet_answer(verdict);
     };
     let held = link::stored::read(state, layout.l);
     let Stored::State(st) = held else {
-        return crate::told::plain(slave::answers::BAD_STATE);
+        return slave::answers::plain(slave::answers::BAD_STATE);
     };
     if memory.len() != layout.memory as usize {
-        return crate::told::plain(slave::answers::BAD_MEMORY);
+        return slave::answers::plain(slave::answers::BAD_MEMORY);
     }
     if st.link == link::state::DISABLED {
-        return crate::told::plain(slave::answers::IS_DISABLED);
+        return slave::answers::plain(slave::answers::IS_DISABLED);
     }
     let form = crate::whole::checked(trace, layout.l);
     if form.number != 0 {

@@ -7,10 +7,10 @@ ghost use lib.ListN.{length, drop};
 ghost use Rattle.octets.specs.Parts.{part};
 ghost use Rattle.sheet.specs.Walk.{verdictOf};
 ghost use Rattle.sheet.specs.declared.walk.Verdict.the-variants.{Valid};
-ghost use Rattle.slave.specs.Exchange.{exchangeOf};
-ghost use Rattle.slave.specs.Wanted.{stepped, steppedOf};
+ghost use Rattle.slave.specs.Wanted.{stepped, performed};
+ghost use Rattle.replay.specs.Replay.{recordLeaves};
 
-// The record at a place. What an exchange would refuse leaves everything as it was, and so does this.
+// The record at a place; our machine's reply is built in the lent room. What an exchange would refuse leaves everything as it was, and so does this.
 pub fn one(
     sheet: &[u8],
     layout: Layout,
@@ -21,7 +21,7 @@ pub fn one(
     room: &mut [u8],
 ) -> u8
     requires { ⌜ (verdictOf (now sheet) ≡ Valid layout) × (length (now memory) ≡ layout .memory) × (length (now room) ≡ layout .l) × (at + 1 + layout .l + layout .l ≤ length (now trace)) ⌝ }
-    ensures { λ d. ⌜ stepped d (now (state .exit)) (now (memory .exit)) ≡ steppedOf (layout .l) (now (state .entry)) (now (memory .entry)) (part (drop at (now (trace .entry))) (1 + layout .l) (layout .l)) (exchangeOf (now (sheet .entry)) (now (state .entry)) (now (memory .entry)) (part (drop at (now (trace .entry))) 1 (layout .l)) (part (drop at (now (trace .entry))) (1 + layout .l) (layout .l))) ⌝ }
+    ensures { λ d. ⌜ performed (stepped d (now (state .exit)) (now (memory .exit))) (now (room .exit)) ≡ recordLeaves (now (sheet .entry)) (layout .l) (now (state .entry)) (now (memory .entry)) (now (room .entry)) (part (drop at (now (trace .entry))) 1 (layout .l)) (part (drop at (now (trace .entry))) (1 + layout .l) (layout .l)) ⌝ }
 {
     let l = layout.l as usize;
     let from = at + 1;

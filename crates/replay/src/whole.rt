@@ -1,6 +1,6 @@
 // The form of a whole trace.
 use crate::form::Record;
-use crate::told::Told;
+use slave::answers::Answer;
 ghost use mathlib.Core.Path.{_≡_};
 ghost use Prim.Native.Nat.{_≤_};
 ghost use lib.ListN.{length};
@@ -18,7 +18,7 @@ fn fault_in(found: Record) -> u8
 }
 
 // The first fault of a trace with its place, record by record; 0 where all records are whole.
-fn form(trace: &[u8], l: u8) -> Told
+fn form(trace: &[u8], l: u8) -> Answer
     requires { ⌜ length (now trace) ≤ 1073741823 ⌝ }
     ensures { λ r. ⌜ r ≡ formOf l (now (trace .entry)) ⌝ }
 {
@@ -27,22 +27,22 @@ fn form(trace: &[u8], l: u8) -> Told
     while at < trace.len() {
         let fault = fault_in(crate::reader::record_at(trace, at, l));
         if fault != 0 {
-            return Told {
+            return Answer {
                 number: fault,
                 place: at as u32,
             };
         }
         at += size;
     }
-    crate::told::plain(0)
+    slave::answers::plain(0)
 }
 
 // The form of a trace of any length.
-pub fn checked(trace: &[u8], l: u8) -> Told
+pub fn checked(trace: &[u8], l: u8) -> Answer
     ensures { λ r. ⌜ r ≡ checkedForm l (now (trace .entry)) ⌝ }
 {
     if 1073741823 < trace.len() {
-        return crate::told::plain(crate::told::TOO_LONG);
+        return slave::answers::plain(crate::numbers::TOO_LONG);
     }
     form(trace, l)
 }

@@ -1,11 +1,11 @@
-// What a call tells: document 01's number, and the place that a sheet's fault has.
+// What a call tells: document 01's number, and a place, of a sheet's fault or of a trace. One type serves every call.
 use sheet::walk::Verdict;
 ghost use mathlib.Core.Path.{_≡_};
 ghost use Rattle.slave.specs.Answers.{told, sheetAnswer};
 
 pub struct Answer {
     pub number: u8,
-    pub place: u16,
+    pub place: u32,
 }
 
 pub const DONE: u8 = 0;
@@ -40,7 +40,7 @@ pub fn sheet_answer(verdict: Verdict) -> Answer
         },
         Verdict::Faulty(fault, place) => Answer {
             number: sheet::records::fault_number(fault),
-            place,
+            place: place as u32,
         },
     }
 }

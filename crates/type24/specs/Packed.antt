@@ -2,12 +2,11 @@
 use Prim.Native.Nat.{ℕ, _+_, _*_}
 use mathlib.Core.List.{List}
 use Rattle.replay.specs.Replay.{Replayed}
-use Rattle.replay.specs.declared.told.Told.{Told}
+use Rattle.slave.specs.declared.answers.Answer.{Answer}
 use Rattle.sheet.specs.declared.walk.Verdict.{Verdict}
 use Rattle.sheet.specs.declared.walk.Verdict.the-variants.{Valid, Faulty}
 use Rattle.slave.specs.Calls.{After}
 use Rattle.slave.specs.Exchange.{Left}
-use Rattle.slave.specs.declared.answers.Answer.{Answer}
 
 abbrev pub packed : Answer → ℕ
 packed a = a .number + 4294967296 * a .place
@@ -41,10 +40,6 @@ unfoldable pub lengthsOf : Verdict → ℕ
 lengthsOf (Valid layout) = layout .l + 4294967296 * layout .memory
 lengthsOf (Faulty fault place) = 0
 
--- what a replay tells, as one number
-abbrev pub packedTold : Told → ℕ
-packedTold t = t .number + 4294967296 * t .place
-
 -- what a call of replay leaves behind
 pub record PackedReplay : Type 0 where
   pub answer : ℕ
@@ -55,4 +50,4 @@ abbrev pub packedReplay : ℕ → List ℕ → List ℕ → PackedReplay
 packedReplay answer state memory = record { answer = answer; state = state; memory = memory }
 
 abbrev pub byReplay : Replayed → PackedReplay
-byReplay r = packedReplay (packedTold (r .answer)) (r .state) (r .memory)
+byReplay r = packedReplay (packed (r .answer)) (r .state) (r .memory)

@@ -1,6 +1,5 @@
 // The slave's calls for C hosts: numbers and byte slices alone cross this boundary, and every call checks every lent length itself.
 // An answer is one number, document 01's number + 2^32 × place.
-use replay::told::Told;
 use sheet::walk::Verdict;
 use slave::answers::Answer;
 ghost use mathlib.Core.Path.{_≡_};
@@ -9,18 +8,12 @@ ghost use Rattle.sheet.specs.Walk.{verdictOf};
 ghost use Rattle.slave.specs.Answers.{sheetAnswer};
 ghost use Rattle.slave.specs.Calls.{resetOf, enableOf};
 ghost use Rattle.slave.specs.Exchange.{exchangeOf};
-ghost use Rattle.type24.specs.Packed.{packed, packedAfter, afterCall, packedLeft, leftByCall, lengthsOf, packedTold, packedReplay, byReplay};
+ghost use Rattle.type24.specs.Packed.{packed, packedAfter, afterCall, packedLeft, leftByCall, lengthsOf, packedReplay, byReplay};
 
 fn pack(answer: Answer) -> u64
     ensures { λ r. ⌜ r ≡ packed answer ⌝ }
 {
     answer.number as u64 + 4294967296 * (answer.place as u64)
-}
-
-fn pack_told(told: Told) -> u64
-    ensures { λ r. ⌜ r ≡ packedTold told ⌝ }
-{
-    told.number as u64 + 4294967296 * (told.place as u64)
 }
 
 // The verdict on a sheet: 0, or a fault with its place.
@@ -75,5 +68,5 @@ pub extern "C" fn t24_exchange(
 pub extern "C" fn t24_replay(sheet: &[u8], state: &mut [u8], memory: &mut [u8], trace: &[u8]) -> u64
     ensures { λ r. ⌜ packedReplay r (now (state .exit)) (now (memory .exit)) ≡ byReplay (replayOf (now (sheet .entry)) (now (state .entry)) (now (memory .entry)) (now (trace .entry))) ⌝ }
 {
-    pack_told(replay::playing::replay(sheet, state, memory, trace))
+    pack(replay::playing::replay(sheet, state, memory, trace))
 }

@@ -9,7 +9,7 @@ use Rattle.type24.proofs.t24_replay.Tie as tie
 returns : tie.Need-returns
 returns c =
     let last = c .before .before .before .before .before .replay .last in
-    ap (λ (n : ℕ). packedReplay n (last .1 .0) (last .1 .1 .0)) (c .pack-told .ensures) ∙ ap byReplay (c .before .before .before .before .before .replay .ensures)
+    ap (λ (n : ℕ). packedReplay n (last .1 .0) (last .1 .1 .0)) (c .pack .ensures) ∙ ap byReplay (c .before .before .before .before .before .replay .ensures)
 
 pub t24-replay-spec : {M : Type 1} → statement M
 t24-replay-spec =

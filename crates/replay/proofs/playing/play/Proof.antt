@@ -5,7 +5,7 @@ use native.Mathlib.Omega.{arith}
 use borrow.Author.Needs.{needs}
 use lib.ListN.{length, drop}
 use Rattle.sheet.proofs.Valid.{valid-sheet, length-least}
-use Rattle.slave.specs.Wanted.{stepped}
+use Rattle.slave.specs.Wanted.{stepped, Performed}
 use Rattle.replay.specs.Replay.{playOf}
 use Rattle.replay.specs.Trace.{recordSize, recordsOf, tracedOf}
 use Rattle.replay.proofs.Plays.{play-differs, play-agrees, play-end, one-more, traced-all}
@@ -68,7 +68,7 @@ returns c =
     let q = one-more (length (a .trace .now)) (l .at) (l .inv .4 .0) (recordSize (a .layout .l)) (l .inv .4 .1) (c .before .before .before .before .before .before .before .before .before .before .before .before .loop-test .taken) in
     let x = stepped (o .result) (o .last .1 .1 .0) (o .last .1 .1 .1 .0) in
     let here = l .inv .4 .2 ∙ ap (λ (m : ℕ). playOf (a .sheet .now) (a .layout .l) (l .k) (l .state) (l .memory) (recordsOf (a .layout .l) m (drop (l .at) (a .trace .now)))) (q .1) in
-    sym (here ∙ play-differs (a .sheet .now) (a .trace .now) (a .layout .l) (l .k) (l .at) (l .state) (l .memory) (q .0) x (o .ensures) (c .if1 .taken))
+    sym (here ∙ play-differs (a .sheet .now) (a .trace .now) (a .layout .l) (l .k) (l .at) (l .state) (l .memory) (q .0) x (ap (λ (x : Performed). x .step) (o .ensures)) (c .if1 .taken))
 
 add-k : tie.Need-add-k Inv-loop μ-loop
 add-k c = omega (arith, c .before .before .before .before .before .before .before .before .before .before .before .before .before .loop .inv .0, c .before .before .before .before .before .before .before .before .before .before .before .before .before .before .before .before .before .before .before .before .pre .3)
@@ -96,7 +96,7 @@ loop-again c =
       (
         q .0,
         q .2,
-        here ∙ play-agrees (a .sheet .now) (a .trace .now) (a .layout .l) (l .k) (l .at) (l .state) (l .memory) (q .0) x (o .ensures) (c .if1 .left),
+        here ∙ play-agrees (a .sheet .now) (a .trace .now) (a .layout .l) (l .k) (l .at) (l .state) (l .memory) (q .0) x (ap (λ (x : Performed). x .step) (o .ensures)) (c .if1 .left),
       ),
     )
 

@@ -5,7 +5,8 @@ use native.Mathlib.Nat.{suc-mul}
 use native.Mathlib.Omega.{arith}
 use borrow.Author.Needs.{needs}
 use lib.ListN.{length}
-use Rattle.replay.specs.Trace.{recordSize, recordAt, says, faultIn, formFrom, formOf}
+use Rattle.replay.specs.Trace.{recordSize, recordAt, faultIn, formFrom, formOf}
+use Rattle.slave.specs.Answers.{told}
 use Rattle.replay.proofs.Forms.{fault-told, form-end, form-bad, form-on}
 use Rattle.replay.proofs.whole.form.Statement.{statement}
 use Rattle.replay.proofs.whole.form.Tie as tie
@@ -38,7 +39,7 @@ returns c =
     let u = subst (λ (x : ℕ). x < length (a .trace .now)) (l .inv .2) h in
     let f = c .before .fault-in .ensures ∙ ap faultIn (c .before .before .record-at .ensures ∙ ap (recordAt (a .l) (a .trace .now)) (l .inv .2)) ∙ fault-told (a .l) (a .trace .now) (k * recordSize (a .l)) u in
     let here = l .inv .4 ∙ ap (formFrom (a .l) (a .trace .now) k) (q .1) in
-    (λ i. says (c .before .fault-in .result) (l .inv .2 i))
+    (λ i. told (c .before .fault-in .result) (l .inv .2 i))
     ∙ sym (here ∙ form-bad (a .l) (a .trace .now) k (q .0) u (c .before .fault-in .result) (sym f) (c .if1 .taken))
 
 add-at : tie.Need-add-at Inv-loop μ-loop

@@ -16,4 +16,4 @@ returns-2 c = rw (c .before .before .verdict .given .1) (ap (λ (n : ℕ). told 
 
 pub sheet-answer-spec : {M : Type 1} → statement M
 sheet-answer-spec =
-    tie.close (tie.spec (λ c. search needs) (λ c. search needs) (λ c κs. search needs) returns returns-2)
+    tie.close (tie.spec (λ c. search needs) (λ c. search needs) (λ c κs. search needs) (λ c. search needs) returns returns-2)
