@@ -1,12 +1,10 @@
 /*
- * Tests the boundary of the library from C: boundary [RANDOM CALLS [stop]].
- * Under 10000 random calls it is a short run, which samples the long series;
- * with a second argument it ends at the first group that fails.
+ * Tests the boundary of the library from C: boundary [stop].
+ * With an argument it ends at the first group that fails.
  */
 #include "groups.h"
 
 #include <stdio.h>
-#include <stdlib.h>
 
 #ifdef WRONG_EXPECTATION
 /* Built only to see that a wrong expectation makes the test fail. */
@@ -30,21 +28,19 @@ static const struct group groups[] = {
     { "accident: state record of another L", accident_other_l },
     { "sheet: each fault at each call", sheet_faults },
     { "sheet: limits met and passed by one", sheet_limits },
-    { "sheet: every octet of two sheets changed", sheet_octets },
     { "refusals: all mixtures, in order", refusal_order },
     { "refusals: lengths", refusal_lengths },
     { "refusals: really big buffers", refusal_big },
     { "refusals: null pointers of length 0", refusal_empty },
-    { "state: every octet changed", state_octets },
-    { "commands: every octet changed", command_octets },
-    { "replay: a recorded trace agrees", replay_agrees },
+    { "commands: every code at every L", command_codes },
+    { "replay: its records exchanged one by one", replay_exchanges },
+    { "replay: the whole trace agrees", replay_agrees },
     { "replay: every octet of the replies changed", replay_replies },
-    { "replay: every octet of the commands changed", replay_commands },
+    { "replay: codes and control changed", replay_commands },
     { "replay: cut at every length", replay_cuts },
     { "replay: every kind", replay_kinds },
     { "replay: refusals in order", replay_refusals },
     { "replay: the longest trace, and longer", replay_longest },
-    { "random calls beside the model", random_calls },
     { "each number met at each call that has it", all_numbers_met }
 };
 
@@ -53,14 +49,11 @@ int main(int argc, char **argv)
     long failures = 0;
     size_t i;
 
-    if (argc > 1)
-        random_count = atol(argv[1]);
-    if (random_count < 10000)
-        short_run();
+    (void)argv;
     lend_open();
     for (i = 0; i < sizeof groups / sizeof groups[0]; i++) {
         failures += run_group(&groups[i]);
-        if (failures != 0 && argc > 2)
+        if (failures != 0 && argc > 1)
             break;
     }
     printf("boundary: %s\n", failures == 0 ? "ok" : "FAILED");

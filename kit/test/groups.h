@@ -8,17 +8,16 @@ void header_constants(void);
 void header_words(void);
 void sheet_faults(void);
 void sheet_limits(void);
-void sheet_octets(void);
 void refusal_order(void);
 void refusal_lengths(void);
 void refusal_big(void);
 void refusal_empty(void);
-void state_octets(void);
 void accident_reply(void);
 void accident_other_l(void);
 void bench_cases(void);
 void bench_program(void);
-void command_octets(void);
+void command_codes(void);
+void replay_exchanges(void);
 void replay_agrees(void);
 void replay_replies(void);
 void replay_commands(void);
@@ -26,9 +25,6 @@ void replay_cuts(void);
 void replay_kinds(void);
 void replay_refusals(void);
 void replay_longest(void);
-void random_calls(void);
 void all_numbers_met(void);
-
-extern long random_count; /* how many random calls to make */
 
 #endif

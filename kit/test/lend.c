@@ -1,6 +1,5 @@
 /* Lends octet buffers to the library, and checks them after. */
 #include "lend.h"
-#include "model.h"
 #include "place.h"
 
 #include <stdio.h>
@@ -154,21 +153,6 @@ int expect(enum which which, uint64_t answer)
     return call_and_compare(which, answer, 1, 1) && front_right;
 }
 
-uint64_t ask_model(enum which which)
-{
-    return model_ask(which, lent[SHEET].given, lent[SHEET].len,
-                     lent[STATE].wanted, lent[STATE].len,
-                     lent[MEMORY].wanted, lent[MEMORY].len,
-                     lent[COMMAND].given, lent[COMMAND].len,
-                     lent[REPLY].wanted, lent[REPLY].len,
-                     lent[TRACE].given, lent[TRACE].len);
-}
-
-int expect_model(enum which which)
-{
-    return expect(which, ask_model(which));
-}
-
 long met(enum which which, unsigned number)
 {
     return answers[which][number];
@@ -179,20 +163,6 @@ void check(int right, const char *what)
     calls++;
     if (!right)
         fail(what, ROLES, 0);
-}
-
-static int try_every = 1;
-
-void short_run(void)
-{
-    try_every = 17; /* shares no factor with the lengths of the series */
-}
-
-int left_out(void)
-{
-    static long turn;
-
-    return turn++ % try_every != 0;
 }
 
 void label(const char *text, long number)

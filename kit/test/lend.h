@@ -38,10 +38,6 @@ int expect(enum which which, uint64_t answer);
 /* As expect, but the buffers stand on one side of their places only. */
 int expect_on_side(enum which which, uint64_t answer, int back);
 
-/* As expect, with answer and buffers as the test's own model has them. */
-int expect_model(enum which which);
-uint64_t ask_model(enum which which);
-
 /* Counts an answer, for calls that are not made by expect. */
 void count_answer(enum which which, uint64_t answer);
 
@@ -50,10 +46,6 @@ long met(enum which which, unsigned number);
 
 /* Counts and reports a condition that is no call. */
 void check(int right, const char *what);
-
-/* In a short run only some of a long series are tried; 1 for the others. */
-void short_run(void);
-int left_out(void);
 
 /* Says what is being tried, for the report of a failure. */
 void label(const char *text, long number);

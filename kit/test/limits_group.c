@@ -1,4 +1,4 @@
-/* Limits of the sheet met exactly, passed by one, and each octet changed. */
+/* Limits of the sheet met exactly, and passed by one. */
 #include "groups.h"
 #include "sheets.h"
 
@@ -111,35 +111,4 @@ void sheet_limits(void)
     items(32, T24_DONE);
     items(33, pair(16, 4 + 32 * 35));
     edges_of_the_address_space();
-}
-
-static void each_octet(const struct built *base, size_t from, size_t step)
-{
-    size_t at;
-    unsigned value;
-
-    for (at = from; at < base->len; at += step) {
-        label("octet", (long)at);
-        for (value = 0; value < 256; value++) {
-            if (left_out())
-                continue;
-            give(SHEET, base->octets, base->len);
-            given(SHEET)[at] = wanted(SHEET)[at] = (uint8_t)value;
-            give_noise(STATE, T24_STATE_LEN);
-            expect_on_side(ASK_SHEET, ask_model(ASK_SHEET), value & 1);
-            expect_on_side(ASK_LENGTHS, ask_model(ASK_LENGTHS), value & 1);
-            expect_on_side(ASK_RESET, ask_model(ASK_RESET), value & 1);
-        }
-    }
-}
-
-/* The large sheet is sampled: all its octets would take minutes. */
-void sheet_octets(void)
-{
-    struct built sheet;
-
-    build_p(&sheet, 16);
-    each_octet(&sheet, 0, 1);
-    build_largest(&sheet, 64);
-    each_octet(&sheet, 3, 61);
 }

@@ -1,4 +1,4 @@
-/* A trace of exchanges on sheet P, with what the slave was like between them. */
+/* A trace of exchanges on sheet P, with what the slave is like between them. */
 #ifndef RECORDING_H
 #define RECORDING_H
 
@@ -19,13 +19,13 @@ struct recording {
 /* The kind of trace records of this L. */
 unsigned kind_of(unsigned l);
 
-/* Exchanges a fixed run of commands and keeps it. */
-void record(struct recording *kept, unsigned l);
+/* Puts the trace together from written-out octets; no call is made. */
+void load_recording(struct recording *kept, unsigned l);
 
 /* Gives sheet P, the first state and memory, and the whole trace. */
 void give_recording(const struct recording *kept);
 
-/* State and memory are wanted as they were before record number `at`. */
+/* State and memory are wanted as they are before record number `at`. */
 void want_before(const struct recording *kept, size_t at);
 
 #endif

@@ -5,14 +5,22 @@
 
 #include <string.h>
 
+/* The noise of a command begins with C3 hex, which is no code. */
+static void want_unknown_code(unsigned l)
+{
+    memset(wanted(REPLY), 0, l);
+    wanted(REPLY)[0] = 0xC3;
+    wanted(REPLY)[2] = 0x05;
+    wanted(REPLY)[3] = T24_ALARM_CODE;
+    wanted(STATE)[T24_AT_COMMAND_ALARM] = T24_ALARM_CODE;
+}
+
 static void mixture_of_exchange(unsigned l, uint64_t sheet_answer, int state,
                                 int memory, int command, int reply,
                                 unsigned link)
 {
     uint64_t answer = T24_DONE;
 
-    if (left_out())
-        return;
     give_state(l, link, state);
     give_noise(MEMORY, near_length(8, memory));
     give_noise(COMMAND, near_length(l, command));
@@ -29,8 +37,8 @@ static void mixture_of_exchange(unsigned l, uint64_t sheet_answer, int state,
         answer = T24_BAD_REPLY;
     else if (link == T24_LINK_DISABLED)
         answer = T24_IS_DISABLED;
-    if (answer == T24_DONE)
-        ask_model(ASK_EXCHANGE);
+    else
+        want_unknown_code(l);
     expect(ASK_EXCHANGE, answer);
 }
 
@@ -99,8 +107,6 @@ static void lengths_of(enum role role, size_t right, unsigned number)
 
     for (len = 0; len <= 2 * right + 70; len++) {
         if (len == right)
-            continue;
-        if (len > right + 1 && left_out())
             continue;
         label("length", (long)len);
         give_noise(role, len);
@@ -173,4 +179,37 @@ void refusal_big(void)
     big(COMMAND, 64, T24_BAD_COMMAND);
     give_noise(COMMAND, 64);
     big(REPLY, 64, T24_BAD_REPLY);
+}
+
+/* With length 0 a host may have no buffer at all, as from malloc(0). */
+void refusal_empty(void)
+{
+    static const uint8_t bare[5] = { 1, 16, 0x30, 0, 0 };
+    uint8_t state[T24_STATE_LEN], command[16] = { 0 }, reply[16];
+
+    memcpy(state, state_a, sizeof state);
+    check(t24_sheet(NULL, 0) == T24_SHEET_CUT, "null sheet");
+    check(t24_lengths(NULL, 0) == 0, "null sheet");
+    check(t24_reset(NULL, 0, NULL, 0) == T24_SHEET_CUT, "null sheet");
+    check(t24_enable(NULL, 0, NULL, 0) == T24_SHEET_CUT, "null sheet");
+    check(t24_reset(bare, 5, NULL, 0) == T24_BAD_STATE, "null state");
+    check(t24_enable(bare, 5, NULL, 0) == T24_BAD_STATE, "null state");
+    check(t24_exchange(NULL, 0, NULL, 0, NULL, 0, NULL, 0, NULL, 0)
+          == T24_SHEET_CUT, "all null");
+    check(t24_exchange(bare, 5, NULL, 0, NULL, 0, NULL, 0, NULL, 0)
+          == T24_BAD_STATE, "null state");
+    check(t24_exchange(bare, 5, state, 10, NULL, 0, NULL, 0, NULL, 0)
+          == T24_BAD_COMMAND, "null command");
+    check(t24_exchange(bare, 5, state, 10, NULL, 0, command, 16, NULL, 0)
+          == T24_BAD_REPLY, "null reply");
+    check(t24_replay(NULL, 0, NULL, 0, NULL, 0, NULL, 0) == T24_SHEET_CUT,
+          "all null");
+    check(t24_replay(bare, 5, NULL, 0, NULL, 0, NULL, 0) == T24_BAD_STATE,
+          "null state");
+    check(t24_replay(bare, 5, state, 10, NULL, 0, NULL, 0) == T24_DONE,
+          "null memory and trace of length 0");
+    check(memcmp(state, state_a, sizeof state) == 0, "state changed");
+    check(t24_exchange(bare, 5, state, 10, NULL, 0, command, 16, reply, 16)
+          == T24_DONE, "null memory of length 0");
+    check(reply[2] == 4 && reply[3] == 0, "reply without memory");
 }

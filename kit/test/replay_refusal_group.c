@@ -71,8 +71,6 @@ static void mixtures(int sheet)
     for (state = 0; state < STATE_VARIANTS; state++)
         for (memory = 0; memory < LENGTH_VARIANTS; memory++)
             for (trace = 0; trace < TRACE_VARIANTS; trace++) {
-                if (sheet + state + memory > 0 && left_out())
-                    continue;
                 label("trace variant", trace);
                 mixture(give_sheet(kept.l, sheet), state, memory, trace,
                         T24_LINK_DISABLED);
@@ -87,7 +85,7 @@ void replay_refusals(void)
     int sheet;
 
     for (i = 0; i < sizeof all_l; i++) {
-        record(&kept, all_l[i]);
+        load_recording(&kept, all_l[i]);
         for (sheet = 0; sheet < SHEET_VARIANTS; sheet++)
             if (sheet == 0 || i == 1)
                 mixtures(sheet);

@@ -1,7 +1,8 @@
 /*
  * Stands between the test and the library and spoils one thing at a time, as
- * the variable SPOIL says, so that it shows whether the test notices.
- * Linked with --wrap for each of the five calls.
+ * the variable SPOIL says, so that it shows whether the test notices; between
+ * compare and the library for peer/valgrind.
+ * Linked with --wrap for each of the six calls.
  */
 #include "type24.h"
 
@@ -15,6 +16,8 @@ uint64_t __real_t24_enable(const uint8_t *, size_t, uint8_t *, size_t);
 uint64_t __real_t24_exchange(const uint8_t *, size_t, uint8_t *, size_t,
                              uint8_t *, size_t, const uint8_t *, size_t,
                              uint8_t *, size_t);
+uint64_t __real_t24_replay(const uint8_t *, size_t, uint8_t *, size_t,
+                           uint8_t *, size_t, const uint8_t *, size_t);
 uint64_t __wrap_t24_sheet(const uint8_t *, size_t);
 uint64_t __wrap_t24_lengths(const uint8_t *, size_t);
 uint64_t __wrap_t24_reset(const uint8_t *, size_t, uint8_t *, size_t);
@@ -22,6 +25,8 @@ uint64_t __wrap_t24_enable(const uint8_t *, size_t, uint8_t *, size_t);
 uint64_t __wrap_t24_exchange(const uint8_t *, size_t, uint8_t *, size_t,
                              uint8_t *, size_t, const uint8_t *, size_t,
                              uint8_t *, size_t);
+uint64_t __wrap_t24_replay(const uint8_t *, size_t, uint8_t *, size_t,
+                           uint8_t *, size_t, const uint8_t *, size_t);
 
 static int spoil(int number)
 {
@@ -87,9 +92,9 @@ static void spoil_buffers(uint64_t answer, const uint8_t *sheet,
                           const uint8_t *command, size_t command_len,
                           uint8_t *reply, size_t reply_len)
 {
-    static unsigned turn;
+    static unsigned built;
 
-    turn++;
+    built += answer == T24_DONE;
     if (spoil(9) && answer == T24_BAD_REPLY)
         reply[reply_len] = 0; /* the overrun that once was */
     if (spoil(10) && reply_len > 0)
@@ -102,7 +107,7 @@ static void spoil_buffers(uint64_t answer, const uint8_t *sheet,
         reply[reply_len - 1] ^= 0x80; /* an old octet behind the data */
     if (spoil(14) && answer == T24_DONE && reply[0] == T24_MEM_WR)
         memory[memory_len - 1] ^= 1;
-    if (spoil(15) && answer == T24_DONE && turn % 1000 == 0)
+    if (spoil(15) && answer == T24_DONE && built % 100 == 0)
         reply[1] ^= 0x10; /* something kept from call to call */
 }
 
@@ -122,5 +127,24 @@ uint64_t __wrap_t24_exchange(const uint8_t *sheet, size_t sheet_len,
         state[T24_AT_LAST_MN] = 14; /* 15 to 0 then looks like a lost cycle */
     spoil_buffers(answer, sheet, memory, memory_len, command, command_len,
                   reply, reply_len);
+    return answer;
+}
+
+uint64_t __wrap_t24_replay(const uint8_t *sheet, size_t sheet_len,
+                           uint8_t *state, size_t state_len,
+                           uint8_t *memory, size_t memory_len,
+                           const uint8_t *trace, size_t trace_len)
+{
+    const uint64_t answer = __real_t24_replay(sheet, sheet_len, state,
+                                              state_len, memory, memory_len,
+                                              trace, trace_len);
+    const uint32_t number = t24_number(answer);
+
+    if (spoil(17) && number == T24_TRACE_DIFFERS)
+        memory[memory_len - 1] ^= 1; /* the differing record has written */
+    if (spoil(18) && number == T24_TRACE_CUT && t24_place(answer) > 0)
+        return answer + 1; /* a difference told before the form */
+    if (spoil(19) && number == T24_DONE && trace_len > 0)
+        state[T24_AT_LAST_MN] ^= *(const volatile uint8_t *)(trace + trace_len);
     return answer;
 }

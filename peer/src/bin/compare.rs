@@ -1,32 +1,43 @@
 //! Runs the archive's engine and the peer over the same calls and stops at the
 //! first difference.
 //!
-//! compare [EXCHANGES] [SEED] [--progress]
+//! compare [EXCHANGES] [SEED] [--progress] [--blocks]
+//!
+//! --blocks is for a checker of memory: the archive is lent each buffer in a
+//! block of its own, and the directed trials, which are millions, are left out.
 #![deny(warnings)]
 
 use peer::crash::report_crashes;
 use peer::t24::T24;
-use peer::trial::compare;
+use peer::trial::guarded::Guarded;
+use peer::trial::probe::Outcome;
 use peer::trial::progress::Progress;
 use peer::trial::rig::{Call, Rig};
+use peer::trial::{compare, random_sequences};
 use std::process::ExitCode;
 
 const EXCHANGES: u64 = 1_000_000;
 const SEED: u64 = 24;
+
+type Buffer = fn(u8) -> Guarded;
+type Trials = fn(&mut Rig, u64, u64) -> Outcome;
 
 /// What the command line asks for.
 struct Options {
     exchanges: u64,
     seed: u64,
     progress: bool,
+    blocks: bool,
 }
 
 fn options() -> Option<Options> {
     let mut numbers = Vec::new();
-    let mut progress = false;
+    let (mut progress, mut blocks) = (false, false);
     for argument in std::env::args().skip(1) {
         if argument == "--progress" {
             progress = true;
+        } else if argument == "--blocks" {
+            blocks = true;
         } else {
             numbers.push(argument.parse().ok()?);
         }
@@ -38,22 +49,33 @@ fn options() -> Option<Options> {
         exchanges: numbers.first().copied().unwrap_or(EXCHANGES),
         seed: numbers.get(1).copied().unwrap_or(SEED),
         progress,
+        blocks,
     })
+}
+
+/// Which buffers the archive is lent, and which calls are made.
+fn trials(blocks: bool) -> (Buffer, Trials) {
+    if blocks {
+        (Guarded::block, random_sequences)
+    } else {
+        (Guarded::new, compare)
+    }
 }
 
 fn main() -> ExitCode {
     let options = match options() {
         Some(options) => options,
         None => {
-            eprintln!("usage: compare [EXCHANGES] [SEED] [--progress]");
+            eprintln!("usage: compare [EXCHANGES] [SEED] [--progress] [--blocks]");
             return ExitCode::from(2);
         }
     };
     println!("seed {}", options.seed);
     report_crashes();
-    let mut rig = Rig::new(T24);
+    let (buffer, trials) = trials(options.blocks);
+    let mut rig = Rig::lending(T24, buffer);
     rig.progress = options.progress.then(Progress::start);
-    if let Err(difference) = compare(&mut rig, options.exchanges, options.seed) {
+    if let Err(difference) = trials(&mut rig, options.exchanges, options.seed) {
         println!("{difference}");
         println!("seed           {}", options.seed);
         return ExitCode::FAILURE;

@@ -1,4 +1,4 @@
-//! Lent buffers with guard octets on both sides.
+//! Lent buffers with guard octets on both sides, or in blocks of their own.
 
 const GUARD: usize = 40;
 /// Guards are parts of this pattern.
@@ -25,6 +25,8 @@ pub struct Guarded {
     front: usize,
     length: usize,
     salt: u8,
+    /// Whether there are guards; else the octets are the content and no more.
+    guards: bool,
 }
 
 impl Guarded {
@@ -34,11 +36,26 @@ impl Guarded {
             front: 0,
             length: 0,
             salt,
+            guards: true,
+        }
+    }
+
+    /// Without guards, in a new block of the heap with every load: what is
+    /// outside is for a checker of memory to see.
+    pub fn block(salt: u8) -> Guarded {
+        Guarded {
+            guards: false,
+            ..Guarded::new(salt)
         }
     }
 
     /// Takes a copy of the content and renews the guards.
     pub fn load(&mut self, content: &[u8]) {
+        if !self.guards {
+            self.length = content.len();
+            self.octets = content.to_vec();
+            return;
+        }
         self.salt = self.salt.wrapping_mul(5).wrapping_add(77);
         self.front = GUARD + usize::from(self.salt % 8);
         self.length = content.len();
@@ -68,6 +85,9 @@ impl Guarded {
 
     /// Whether no octet around the content has changed.
     pub fn intact(&self) -> bool {
+        if !self.guards {
+            return true;
+        }
         self.octets[..self.front] == *self.front_guard()
             && self.octets[self.front + self.length..] == *self.back_guard()
     }
@@ -88,6 +108,16 @@ mod tests {
             buffer.octets[at] ^= 1;
             assert!(!buffer.intact());
             buffer.octets[at] ^= 1;
+        }
+    }
+
+    #[test]
+    fn a_block_holds_its_content_and_no_more() {
+        let mut buffer = Guarded::block(9);
+        for length in [16, 3, 0, 300] {
+            buffer.load(&vec![7; length]);
+            assert_eq!(buffer.lend(), vec![7; length]);
+            assert_eq!(buffer.octets.capacity(), length);
         }
     }
 

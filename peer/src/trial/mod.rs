@@ -25,6 +25,11 @@ use rig::Rig;
 /// The directed trials, then random sequences of so many exchanges in all.
 pub fn compare(rig: &mut Rig, exchanges: u64, seed: u64) -> Outcome {
     directed::run(rig)?;
+    random_sequences(rig, exchanges, seed)
+}
+
+/// Random sequences of so many exchanges in all.
+pub fn random_sequences(rig: &mut Rig, exchanges: u64, seed: u64) -> Outcome {
     let sequences = exchanges / runs::STEPS + u64::from(exchanges % runs::STEPS != 0);
     for sequence in 0..sequences {
         runs::run_sequence(rig, seed, sequence)?;

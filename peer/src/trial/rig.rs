@@ -47,16 +47,16 @@ pub struct Side {
 }
 
 impl Side {
-    fn new(engine: Engine, salt: u8) -> Side {
+    fn new(engine: Engine, salt: u8, buffer: fn(u8) -> Guarded) -> Side {
         Side {
             engine,
             answer: None,
-            sheet: Guarded::new(salt),
-            state: Guarded::new(salt ^ 1),
-            memory: Guarded::new(salt ^ 2),
-            command: Guarded::new(salt ^ 3),
-            reply: Guarded::new(salt ^ 4),
-            trace: Guarded::new(salt ^ 5),
+            sheet: buffer(salt),
+            state: buffer(salt ^ 1),
+            memory: buffer(salt ^ 2),
+            command: buffer(salt ^ 3),
+            reply: buffer(salt ^ 4),
+            trace: buffer(salt ^ 5),
         }
     }
 
@@ -124,9 +124,14 @@ pub struct Rig {
 
 impl Rig {
     pub fn new(theirs: Engine) -> Rig {
+        Rig::lending(theirs, Guarded::new)
+    }
+
+    /// The other engine is lent these buffers.
+    pub fn lending(theirs: Engine, buffer: fn(u8) -> Guarded) -> Rig {
         Rig {
-            ours: Side::new(PEER, 0x10),
-            theirs: Side::new(theirs, 0x90),
+            ours: Side::new(PEER, 0x10, Guarded::new),
+            theirs: Side::new(theirs, 0x90, buffer),
             inputs: Inputs::default(),
             tally: Tally::default(),
             origin: String::new(),

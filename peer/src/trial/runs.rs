@@ -68,7 +68,12 @@ fn disturb(rig: &mut Rig, random: &mut Random, plan: &Plan) -> Outcome {
     match random.below(7) {
         0 => call = Call::Sheet,
         1 => call = Call::Lengths,
-        2 => call = Call::Reset,
+        2 => {
+            call = Call::Reset;
+            if random.chance(50) {
+                resize(&mut rig.inputs.state, random);
+            }
+        }
         3 => {
             call = Call::Enable;
             rig.inputs.state = damaged_state(random, &kept.state);
@@ -106,29 +111,37 @@ fn resize_one(rig: &mut Rig, random: &mut Random) {
     let chosen = random.index(buffers.len());
     for (index, buffer) in buffers.into_iter().enumerate() {
         if index == chosen || random.chance(20) {
-            let length = buffer.len();
-            let lengths = [
-                0,
-                length.saturating_sub(1),
-                length + 1,
-                length + 64,
-                8,
-                16,
-                64,
-            ];
-            buffer.resize(random.pick(&lengths), 0xEE);
+            resize(buffer, random);
         }
     }
 }
 
-/// Replays what the sequence has exchanged, then with one octet changed.
+fn resize(buffer: &mut Vec<u8>, random: &mut Random) {
+    let length = buffer.len();
+    let lengths = [
+        0,
+        length.saturating_sub(1),
+        length + 1,
+        length + 64,
+        8,
+        16,
+        64,
+    ];
+    buffer.resize(random.pick(&lengths), 0xEE);
+}
+
+/// Replays what the sequence has exchanged, then with one octet changed, or cut.
 fn replay(rig: &mut Rig, random: &mut Random, recorder: &Recorder) -> Outcome {
     recorder.lend_to(&mut rig.inputs);
     rig.call(Call::Replay)?;
     for _ in 0..4 {
         recorder.lend_to(&mut rig.inputs);
         let at = random.index(recorder.trace.len());
-        rig.inputs.trace[at] ^= 1 << random.below(8);
+        if random.chance(20) {
+            rig.inputs.trace.truncate(at);
+        } else {
+            rig.inputs.trace[at] ^= 1 << random.below(8);
+        }
         rig.call(Call::Replay)?;
     }
     Ok(())

@@ -4,6 +4,7 @@ mod buffers;
 mod data;
 mod limits;
 mod links;
+mod octets;
 mod sheets;
 mod states;
 mod traces;
@@ -17,6 +18,7 @@ pub fn run(rig: &mut Rig) -> Outcome {
     states::run(rig)?;
     links::run(rig)?;
     data::run(rig)?;
+    octets::run(rig)?;
     limits::run(rig)?;
     sheets::run(rig)?;
     traces::run(rig)

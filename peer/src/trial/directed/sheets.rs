@@ -17,6 +17,7 @@ pub fn run(rig: &mut Rig) -> Outcome {
     every_octet(rig, &both_ends(32).octets())?;
     rig.origin = "directed: the largest sheet".to_string();
     largest_sheets(rig)?;
+    some_octets_of_the_largest(rig)?;
     rig.origin = "directed: sheets cut at every length".to_string();
     cuts(rig)?;
     rig.origin = "directed: sequences of kinds".to_string();
@@ -62,6 +63,19 @@ fn largest_sheets(rig: &mut Rig) -> Outcome {
                 changed[at] ^= flip;
                 judge_sheet_briefly(rig, &changed)?;
             }
+        }
+    }
+    Ok(())
+}
+
+/// Every value at each 61st octet: at all of them it would take minutes.
+fn some_octets_of_the_largest(rig: &mut Rig) -> Outcome {
+    let sheet = largest(64, Spans::Last).octets();
+    for at in (3..sheet.len()).step_by(61) {
+        for octet in 0..=255 {
+            let mut changed = sheet.clone();
+            changed[at] = octet;
+            judge_sheet_briefly(rig, &changed)?;
         }
     }
     Ok(())

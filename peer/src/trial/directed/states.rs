@@ -65,8 +65,8 @@ fn fields_together(rig: &mut Rig, plan: &Plan) -> Outcome {
         &[0, 1, 2],
         &[0, 1, 15, 16],
         &[0, 15, 16],
-        &[0, 8, 9, 10, 11, 12],
-        &[0, 8, 12],
+        &[0, 1, 7, 8, 9, 10, 11, 12, 13],
+        &[0, 8, 12, 13],
     ] {
         records = extend_each(&records, choices);
     }
