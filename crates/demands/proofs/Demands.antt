@@ -1,5 +1,6 @@
 -- The owner's page, proved.
 use Rattle.law.proofs.ByTables.{by-tables, one-reading}
+use Rattle.law.proofs.Promises.{promises}
 use Rattle.demands.specs.Demands.{FirstDemand, SecondDemand, ThirdDemand, IdlePrograms, OnTheBench, Request6}
 use Rattle.demands.proofs.Agreed.{traces-have-replies, agrees-exactly}
 use Rattle.demands.proofs.Alone.{refuses-all-keeps-secrets, single-reply-keeps-secrets, stores-nothing-keeps-secrets, echoes-afterwards-keeps-secrets, invents-rsn-keeps-secrets, invents-rsn-agrees-where-reached}
@@ -20,6 +21,7 @@ use Rattle.demands.proofs.Unique.{one-answers}
 
 pub first-demand : FirstDemand
 first-demand = record {
+  each-call-answers = promises;
   which-number-and-place = by-tables;
   a-refused-call-changes-nothing = refused-changes-nothing;
   a-command-refused-on-the-wire = refused-on-the-wire;

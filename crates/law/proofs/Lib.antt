@@ -28,4 +28,5 @@ pub mod TraceKinds
 pub mod Traces
 pub mod Plays
 pub mod Numbered
+pub mod Promises
 pub mod ByTables

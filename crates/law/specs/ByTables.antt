@@ -3,17 +3,12 @@ use Prim.Native.Nat.{ℕ}
 use mathlib.Core.List.{List, []}
 use mathlib.Core.Logic.{_⊎_, _↔_}
 use mathlib.Core.Path.{_≡_}
-use Rattle.replay.specs.Replay.{replayOf}
-use Rattle.sheet.specs.Walk.{verdictOf}
-use Rattle.slave.specs.Answers.{sheetAnswer}
-use Rattle.slave.specs.Calls.{resetOf, enableOf}
-use Rattle.slave.specs.Exchange.{exchangeOf}
-use Rattle.type24.specs.Packed.{packed, packedAfter, afterCall, packedLeft, leftByCall, lengthsOf, packedReplay, byReplay}
 use Rattle.law.specs.Words.{Every}
 use Rattle.law.specs.Sheet.{Sheet, WellFormed, FiveLengths, IsOctet, sheetOctets}
 use Rattle.law.specs.Faults.{FirstFault}
 use Rattle.law.specs.Calls.{Result, result, sheetTold, lengths, reset, enable, exchange}
 use Rattle.law.specs.Trace.{Form, HasForm, replay}
+use Rattle.law.specs.Promises.{SheetPromise, LengthsPromise, ResetPromise, EnablePromise, ExchangePromise, ReplayPromise}
 
 -- what a host has after a call; [] for a buffer that the call has not
 abbrev pub has : ℕ → List ℕ → List ℕ → List ℕ → Result
@@ -33,23 +28,23 @@ pub record OneReading : Type 0 where
   pub some-form : (l : ℕ) (trace : List ℕ) → FiveLengths l → (form : Form) × HasForm l trace form
   pub one-form : (l : ℕ) (trace : List ℕ) (a b : Form) → FiveLengths l → HasForm l trace a → HasForm l trace b → a ≡ b
 
--- each call of type24/src/lib.rt: on the left its promise, word for word, on the right the law. t24_lengths tells 0 for any sheet that is refused
+-- each call of type24/src/lib.rt: on the left its promise, on the right the law. t24_lengths tells 0 for any sheet that is refused
 pub record ByTables : Type 0 where
   pub sheets : (sheet : List ℕ) (a : ℕ) → Every IsOctet sheet
-      → (a ≡ packed (sheetAnswer (verdictOf sheet)))
+      → SheetPromise sheet a
       ↔ ByLaw sheet (λ h x. x ≡ sheetTold h) (λ f place. result f place [] [] []) (has a [] [] [])
   pub lengths-told : (sheet : List ℕ) (a : ℕ) → Every IsOctet sheet
-      → (a ≡ lengthsOf (verdictOf sheet))
+      → LengthsPromise sheet a
       ↔ ByLaw sheet (λ h x. x ≡ lengths h) (λ f place. result 0 0 [] [] []) (has a [] [] [])
   pub resets : (sheet s : List ℕ) (a : ℕ) (s′ : List ℕ) → Every IsOctet sheet
-      → (packedAfter a s′ ≡ afterCall (resetOf sheet s))
+      → ResetPromise sheet s a s′
       ↔ ByLaw sheet (λ h x. x ≡ reset h s) (λ f place. result f place s [] []) (has a s′ [] [])
   pub enables : (sheet s : List ℕ) (a : ℕ) (s′ : List ℕ) → Every IsOctet sheet
-      → (packedAfter a s′ ≡ afterCall (enableOf sheet s))
+      → EnablePromise sheet s a s′
       ↔ ByLaw sheet (λ h x. x ≡ enable h s) (λ f place. result f place s [] []) (has a s′ [] [])
   pub exchanges : (sheet s m c r : List ℕ) (a : ℕ) (s′ m′ r′ : List ℕ) → Every IsOctet sheet
-      → (packedLeft a s′ m′ r′ ≡ leftByCall (exchangeOf sheet s m c r))
+      → ExchangePromise sheet s m c r a s′ m′ r′
       ↔ ByLaw sheet (λ h x. x ≡ exchange h s m c r) (λ f place. result f place s m r) (has a s′ m′ r′)
   pub replays : (sheet s m trace : List ℕ) (a : ℕ) (s′ m′ : List ℕ) → Every IsOctet sheet
-      → (packedReplay a s′ m′ ≡ byReplay (replayOf sheet s m trace))
+      → ReplayPromise sheet s m trace a s′ m′
       ↔ ByLaw sheet (λ h x. (form : Form) × HasForm (h .l) trace form × (x ≡ replay h s m trace form)) (λ f place. result f place s m []) (has a s′ m′ [])

@@ -9,4 +9,5 @@ pub mod Table
 pub mod Exchange
 pub mod Calls
 pub mod Trace
+pub mod Promises
 pub mod ByTables
