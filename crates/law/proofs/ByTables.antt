@@ -21,7 +21,7 @@ use Rattle.law.specs.Sheet.{Sheet, WellFormed, IsOctet, sheetOctets}
 use Rattle.law.specs.Faults.{FirstFault}
 use Rattle.law.specs.Calls.{Result, result, sheetTold, lengths, reset, enable, exchange}
 use Rattle.law.specs.Trace.{Form, HasForm, replay}
-use Rattle.law.specs.ByTables.{has, ByLaw, OneReading, ByTables}
+use Rattle.law.specs.ByTables.{hostHas, ByLaw, OneReading, ByTables}
 use Rattle.law.proofs.Calls.{leaves, leavesState, exchange-good, reset-good, enable-good}
 use Rattle.law.proofs.Complete.{complete}
 use Rattle.law.proofs.Numbered.{fault-is}
@@ -86,21 +86,21 @@ module _ (sheet : List ℕ) (o : Every IsOctet sheet) (z : Result) (Good : Sheet
 equal : (f : Sheet → Result) (h : Sheet) → WellFormed h → (x y : Result) → x ≡ f h → y ≡ f h → x ≡ y
 equal f h w x y p q = p ∙ sym q
 
-sheets-good : (h : Sheet) → WellFormed h → has (packed (sheetAnswer (verdictOf (sheetOctets h)))) [] [] [] ≡ sheetTold h
+sheets-good : (h : Sheet) → WellFormed h → hostHas (packed (sheetAnswer (verdictOf (sheetOctets h)))) [] [] [] ≡ sheetTold h
 unfolding sheetAnswer
-sheets-good h w = ap (λ (v : Verdict). has (packed (sheetAnswer v)) [] [] []) (complete h w)
+sheets-good h w = ap (λ (v : Verdict). hostHas (packed (sheetAnswer v)) [] [] []) (complete h w)
 
-lengths-good : (h : Sheet) → WellFormed h → has (lengthsOf (verdictOf (sheetOctets h))) [] [] [] ≡ lengths h
+lengths-good : (h : Sheet) → WellFormed h → hostHas (lengthsOf (verdictOf (sheetOctets h))) [] [] [] ≡ lengths h
 unfolding lengthsOf
-lengths-good h w = ap (λ (v : Verdict). has (lengthsOf v) [] [] []) (complete h w)
+lengths-good h w = ap (λ (v : Verdict). hostHas (lengthsOf v) [] [] []) (complete h w)
 
-sheets-bad : (sheet : List ℕ) (f : Fault) (place : ℕ) → verdictOf sheet ≡ Faulty f place → has (packed (sheetAnswer (verdictOf sheet))) [] [] [] ≡ result (numberOf f) place [] [] []
+sheets-bad : (sheet : List ℕ) (f : Fault) (place : ℕ) → verdictOf sheet ≡ Faulty f place → hostHas (packed (sheetAnswer (verdictOf sheet))) [] [] [] ≡ result (numberOf f) place [] [] []
 unfolding sheetAnswer
-sheets-bad sheet f place e = ap (λ (v : Verdict). has (packed (sheetAnswer v)) [] [] []) e
+sheets-bad sheet f place e = ap (λ (v : Verdict). hostHas (packed (sheetAnswer v)) [] [] []) e
 
-lengths-bad : (sheet : List ℕ) (f : Fault) (place : ℕ) → verdictOf sheet ≡ Faulty f place → has (lengthsOf (verdictOf sheet)) [] [] [] ≡ result 0 0 [] [] []
+lengths-bad : (sheet : List ℕ) (f : Fault) (place : ℕ) → verdictOf sheet ≡ Faulty f place → hostHas (lengthsOf (verdictOf sheet)) [] [] [] ≡ result 0 0 [] [] []
 unfolding lengthsOf
-lengths-bad sheet f place e = ap (λ (v : Verdict). has (lengthsOf v) [] [] []) e
+lengths-bad sheet f place e = ap (λ (v : Verdict). hostHas (lengthsOf v) [] [] []) e
 
 resets-bad : (sheet s : List ℕ) (f : Fault) (place : ℕ) → verdictOf sheet ≡ Faulty f place → leavesState (resetOf sheet s) ≡ result (numberOf f) place s [] []
 unfolding resetOf sheetAnswer
@@ -131,24 +131,24 @@ replays-only s m trace h w x y p q = p .2 ∙ ap (replay h s m trace) (one-form 
 
 pub by-tables : ByTables
 by-tables = record {
-  sheets = λ sheet a o. exactly sheet o (has (packed (sheetAnswer (verdictOf sheet))) [] [] []) (λ h x. x ≡ sheetTold h) (λ f place. result f place [] [] [])
-      (λ h w e. ap (λ (x : List ℕ). has (packed (sheetAnswer (verdictOf x))) [] [] []) e ∙ sheets-good h w) (equal sheetTold) (sheets-bad sheet)
-      (has a [] [] []) (λ p. ap (λ (n : ℕ). has n [] [] []) p) (λ p. ap (λ (x : Result). x .answer) p);
-  lengths-told = λ sheet a o. exactly sheet o (has (lengthsOf (verdictOf sheet)) [] [] []) (λ h x. x ≡ lengths h) (λ f place. result 0 0 [] [] [])
-      (λ h w e. ap (λ (x : List ℕ). has (lengthsOf (verdictOf x)) [] [] []) e ∙ lengths-good h w) (equal lengths) (lengths-bad sheet)
-      (has a [] [] []) (λ p. ap (λ (n : ℕ). has n [] [] []) p) (λ p. ap (λ (x : Result). x .answer) p);
+  sheets = λ sheet a o. exactly sheet o (hostHas (packed (sheetAnswer (verdictOf sheet))) [] [] []) (λ h x. x ≡ sheetTold h) (λ f place. result f place [] [] [])
+      (λ h w e. ap (λ (x : List ℕ). hostHas (packed (sheetAnswer (verdictOf x))) [] [] []) e ∙ sheets-good h w) (equal sheetTold) (sheets-bad sheet)
+      (hostHas a [] [] []) (λ p. ap (λ (n : ℕ). hostHas n [] [] []) p) (λ p. ap (λ (x : Result). x .answer) p);
+  lengths-told = λ sheet a o. exactly sheet o (hostHas (lengthsOf (verdictOf sheet)) [] [] []) (λ h x. x ≡ lengths h) (λ f place. result 0 0 [] [] [])
+      (λ h w e. ap (λ (x : List ℕ). hostHas (lengthsOf (verdictOf x)) [] [] []) e ∙ lengths-good h w) (equal lengths) (lengths-bad sheet)
+      (hostHas a [] [] []) (λ p. ap (λ (n : ℕ). hostHas n [] [] []) p) (λ p. ap (λ (x : Result). x .answer) p);
   resets = λ sheet s a s′ o. exactly sheet o (leavesState (resetOf sheet s)) (λ h x. x ≡ reset h s) (λ f place. result f place s [] [])
       (λ h w e. ap (λ (x : List ℕ). leavesState (resetOf x s)) e ∙ reset-good h w s) (equal (λ h. reset h s)) (resets-bad sheet s)
-      (has a s′ [] []) (λ p. ap (λ (x : PackedAfter). has (x .answer) (x .state) [] []) p) (λ p. ap (λ (x : Result). packedAfter (x .answer) (x .state)) p);
+      (hostHas a s′ [] []) (λ p. ap (λ (x : PackedAfter). hostHas (x .answer) (x .state) [] []) p) (λ p. ap (λ (x : Result). packedAfter (x .answer) (x .state)) p);
   enables = λ sheet s a s′ o. exactly sheet o (leavesState (enableOf sheet s)) (λ h x. x ≡ enable h s) (λ f place. result f place s [] [])
       (λ h w e. ap (λ (x : List ℕ). leavesState (enableOf x s)) e ∙ enable-good h w s) (equal (λ h. enable h s)) (enables-bad sheet s)
-      (has a s′ [] []) (λ p. ap (λ (x : PackedAfter). has (x .answer) (x .state) [] []) p) (λ p. ap (λ (x : Result). packedAfter (x .answer) (x .state)) p);
+      (hostHas a s′ [] []) (λ p. ap (λ (x : PackedAfter). hostHas (x .answer) (x .state) [] []) p) (λ p. ap (λ (x : Result). packedAfter (x .answer) (x .state)) p);
   exchanges = λ sheet s m c r a s′ m′ r′ o. exactly sheet o (leaves (exchangeOf sheet s m c r)) (λ h x. x ≡ exchange h s m c r) (λ f place. result f place s m r)
       (λ h w e. ap (λ (x : List ℕ). leaves (exchangeOf x s m c r)) e ∙ exchange-good h w s m c r) (equal (λ h. exchange h s m c r)) (exchanges-bad sheet s m c r)
-      (has a s′ m′ r′) (λ p. ap (λ (x : PackedLeft). has (x .answer) (x .state) (x .memory) (x .reply)) p)
+      (hostHas a s′ m′ r′) (λ p. ap (λ (x : PackedLeft). hostHas (x .answer) (x .state) (x .memory) (x .reply)) p)
       (λ p. ap (λ (x : Result). packedLeft (x .answer) (x .state) (x .memory) (x .reply)) p);
   replays = λ sheet s m trace a s′ m′ o. exactly sheet o (leavesReplay (replayOf sheet s m trace)) (Replays s m trace) (λ f place. result f place s m [])
       (replays-good sheet s m trace) (replays-only s m trace) (replays-bad sheet s m trace)
-      (has a s′ m′ []) (λ p. ap (λ (x : PackedReplay). has (x .answer) (x .state) (x .memory) []) p)
+      (hostHas a s′ m′ []) (λ p. ap (λ (x : PackedReplay). hostHas (x .answer) (x .state) (x .memory) []) p)
       (λ p. ap (λ (x : Result). packedReplay (x .answer) (x .state) (x .memory)) p);
 }

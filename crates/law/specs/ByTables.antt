@@ -11,8 +11,8 @@ use Rattle.law.specs.Trace.{Form, HasForm, replay}
 use Rattle.law.specs.Promises.{SheetPromise, LengthsPromise, ResetPromise, EnablePromise, ExchangePromise, ReplayPromise}
 
 -- what a host has after a call; [] for a buffer that the call has not
-abbrev pub has : ℕ → List ℕ → List ℕ → List ℕ → Result
-has answer state memory reply = record { answer = answer; state = state; memory = memory; reply = reply }
+abbrev pub hostHas : ℕ → List ℕ → List ℕ → List ℕ → Result
+hostHas answer state memory reply = record { answer = answer; state = state; memory = memory; reply = reply }
 
 -- "Order: sheet, ..": the sheet is the writing of a well-formed one, and the call does what it does for that; or it has a first fault, and is refused
 abbrev pub ByLaw : List ℕ → (Sheet → Result → Type 0) → (ℕ → ℕ → Result) → Result → Type 0
@@ -32,19 +32,19 @@ pub record OneReading : Type 0 where
 pub record ByTables : Type 0 where
   pub sheets : (sheet : List ℕ) (a : ℕ) → Every IsOctet sheet
       → SheetPromise sheet a
-      ↔ ByLaw sheet (λ h x. x ≡ sheetTold h) (λ f place. result f place [] [] []) (has a [] [] [])
+      ↔ ByLaw sheet (λ h x. x ≡ sheetTold h) (λ f place. result f place [] [] []) (hostHas a [] [] [])
   pub lengths-told : (sheet : List ℕ) (a : ℕ) → Every IsOctet sheet
       → LengthsPromise sheet a
-      ↔ ByLaw sheet (λ h x. x ≡ lengths h) (λ f place. result 0 0 [] [] []) (has a [] [] [])
+      ↔ ByLaw sheet (λ h x. x ≡ lengths h) (λ f place. result 0 0 [] [] []) (hostHas a [] [] [])
   pub resets : (sheet s : List ℕ) (a : ℕ) (s′ : List ℕ) → Every IsOctet sheet
       → ResetPromise sheet s a s′
-      ↔ ByLaw sheet (λ h x. x ≡ reset h s) (λ f place. result f place s [] []) (has a s′ [] [])
+      ↔ ByLaw sheet (λ h x. x ≡ reset h s) (λ f place. result f place s [] []) (hostHas a s′ [] [])
   pub enables : (sheet s : List ℕ) (a : ℕ) (s′ : List ℕ) → Every IsOctet sheet
       → EnablePromise sheet s a s′
-      ↔ ByLaw sheet (λ h x. x ≡ enable h s) (λ f place. result f place s [] []) (has a s′ [] [])
+      ↔ ByLaw sheet (λ h x. x ≡ enable h s) (λ f place. result f place s [] []) (hostHas a s′ [] [])
   pub exchanges : (sheet s m c r : List ℕ) (a : ℕ) (s′ m′ r′ : List ℕ) → Every IsOctet sheet
       → ExchangePromise sheet s m c r a s′ m′ r′
-      ↔ ByLaw sheet (λ h x. x ≡ exchange h s m c r) (λ f place. result f place s m r) (has a s′ m′ r′)
+      ↔ ByLaw sheet (λ h x. x ≡ exchange h s m c r) (λ f place. result f place s m r) (hostHas a s′ m′ r′)
   pub replays : (sheet s m trace : List ℕ) (a : ℕ) (s′ m′ : List ℕ) → Every IsOctet sheet
       → ReplayPromise sheet s m trace a s′ m′
-      ↔ ByLaw sheet (λ h x. (form : Form) × HasForm (h .l) trace form × (x ≡ replay h s m trace form)) (λ f place. result f place s m []) (has a s′ m′ [])
+      ↔ ByLaw sheet (λ h x. (form : Form) × HasForm (h .l) trace form × (x ≡ replay h s m trace form)) (λ f place. result f place s m []) (hostHas a s′ m′ [])

@@ -1,5 +1,5 @@
--- "What each call tells", for a good sheet. A refusal leaves state, memory and reply as they were, and "Place is 0 except for 11 to 17". "That the buffers
--- are distinct is the host's duty": here they are lists of their own.
+-- "What each call tells", for a good sheet. A refusal leaves state, memory and reply as they were, and of document 01's numbers "Place is 0 except for 11 to
+-- 17". "That the buffers are distinct is the host's duty": here they are lists of their own.
 use Prim.Native.Nat.{ℕ, _+_, _*_}
 use mathlib.Core.Bool.{not}
 use mathlib.Core.List.{List, [], _∷_}
@@ -36,7 +36,7 @@ reset h s =
     when (not (eqb (length s) 10)) (result 1 0 s [] [])
     (result 0 0 (0x11 ∷ 0 ∷ h .l ∷ 0 ∷ 0 ∷ 0 ∷ 0 ∷ 0 ∷ 0 ∷ 0 ∷ []) [] [])
 
--- "1 state record of wrong length or not valid; 6 enable when not Disabled"; "Enable turns Disabled into Disconnected."
+-- "1: state record of wrong length or not valid", "6: enable when not Disabled"; "Enable turns Disabled into Disconnected."
 unfoldable pub enable : Sheet → List ℕ → Result
 enable h s =
     when (not (validState h s)) (result 1 0 s [] [])
@@ -49,7 +49,7 @@ done h s m c f =
     result 0 0 (stateAfter s (mn c) (f .state)) (stored (f .memory) (cells (h .regions)) m)
     (replyFor h c (f .alarm) (stateAfter s (mn c) (f .state)) (f .body))
 
--- "1 state record ..; 2 memory length not the sum of the regions; 3 command length not L; 4 reply length not L; 5 exchange while Disabled"
+-- "1: state record ..", "2: memory length not the sum of the regions", "3: command length not L", "4: reply length not L", "5: exchange while Disabled"
 unfoldable pub exchange : Sheet → List ℕ → List ℕ → List ℕ → List ℕ → Result
 exchange h s m c r =
     when (not (validState h s)) (result 1 0 s m r)

@@ -53,16 +53,16 @@ fateOf h s m c =
     (judged s (octet c 0) (table h s m c))
 
 -- "An exchange that begins and ends in link 3 stores MN as known and adds 1 to RSN modulo 16, refused or not. .. On entry to link 3 MN is not known and
--- RSN is 0; on leaving it those fields and dual become 0."
+-- RSN is 0; on leaving it those fields and dual become 0." `sent` is the command's MN
 unfoldable pub watched : ℕ → ℕ → List ℕ → ℕ → List Piece
-watched begins ends s mn =
+watched begins ends s sent =
     when (eqb begins 3)
-    (when (eqb ends 3) (piece 5 (1 ∷ mn ∷ (rsn s + 1) % 16 ∷ []) ∷ []) (piece 3 (0 ∷ []) ∷ piece 5 (0 ∷ 0 ∷ 0 ∷ []) ∷ []))
+    (when (eqb ends 3) (piece 5 (1 ∷ sent ∷ (rsn s + 1) % 16 ∷ []) ∷ []) (piece 3 (0 ∷ []) ∷ piece 5 (0 ∷ 0 ∷ 0 ∷ []) ∷ []))
     (when (eqb ends 3) (piece 5 (0 ∷ 0 ∷ 0 ∷ []) ∷ []) [])
 
 -- the state record afterwards
 unfoldable pub stateAfter : List ℕ → ℕ → List Piece → List ℕ
-stateAfter s mn changes = over (watched (link s) (link (over changes s)) s mn) (over changes s)
+stateAfter s sent changes = over (watched (link s) (link (over changes s)) s sent) (over changes s)
 
 -- "Reply: octet 0 the code again, octet 1 RWDT, octets 2 and 3 status, then body"; t is the state record afterwards
 unfoldable pub replyFor : Sheet → List ℕ → ℕ → List ℕ → List Piece → List ℕ

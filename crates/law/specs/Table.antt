@@ -14,10 +14,10 @@ use Rattle.law.specs.Memory.{cells, mapped, readable, writable, hasAll, 
 pub record Asked : Type 0 where
   pub holds : Bool
   pub alarm : ℕ
-  pub octet : ℕ
+  pub field : ℕ
 
 abbrev pub check : Bool → ℕ → ℕ → Asked
-check holds alarm octet = record { holds = holds; alarm = alarm; octet = octet }
+check holds alarm field = record { holds = holds; alarm = alarm; field = field }
 
 -- a row: the code, the links that allow it, its checks in order; if all hold, what changes in the state record, what the body has, what is stored
 pub record Row : Type 0 where
@@ -59,7 +59,8 @@ module _ (h : Sheet) (s m c : List ℕ) where
   abbrev pub parameter : Parameter
   parameter = parameterOf (h .parameters) (number c 4 2)
 
-  -- 01 and 02: "4-5 number in sheet; 6 size equal to its size and at most L - 8; span mapped", then "Rights over the whole span: alarm 10"
+  -- 01 and 02: "4-5 number in sheet; 6 size equal to its size and at most L - 8; span mapped", then "Rights over the whole span: alarm 10". Of a
+  -- well-formed sheet every parameter's span is mapped, so the fourth check holds there
   abbrev pub parameterChecks : (ℕ → Bool) → List Asked
   parameterChecks right =
       check (oneOf (number c 4 2) (map (λ (p : Parameter). p .number) (h .parameters))) 9 4

@@ -53,9 +53,9 @@ alike (x ∷ xs) [] = 0
 alike (x ∷ xs) (y ∷ ys) = when (eqb x y) (suc (alike xs ys)) 0
 
 -- "tell the first record whose reply is not our machine's, with its number and the first differing octet, or that all agree, with the final state and
--- memory. .. Records are numbered from 0; on a difference, state and memory stand as before that record": 0 with the number of records, or 34 with
--- 64 times the record's number + the octet; these numbers are our own. From record k on. Each command is done without an exchange's refusals, since they
--- cannot be: the state stays valid and enabled, the memory keeps its length, and a whole record has L
+-- memory. .. Records are numbered from 0; on a difference, state and memory stand as before that record": 0 with the number of records as place, or 34
+-- with 64 times the record's number + the number, from 0, of the first differing octet of its reply; these are our own. From record k on. Each command is
+-- done without an exchange's refusals, since they cannot be: the state stays valid and enabled, the memory keeps its length, and a whole record has L
 unfoldable pub played : Sheet → ℕ → List ℕ → List ℕ → List Traced → Result
 played h k s m [] = result 0 k s m []
 played h k s m (t ∷ ts) =

@@ -36,11 +36,12 @@ abbrev pub Some : {A : Type 0} → (A → Type 0) → List A → Type 0
 Some P [] = ⊥
 Some P (x ∷ xs) = P x ⊎ Some P xs
 
--- each of a list and the one behind it
+-- x and the first of a list, and each of the list and the one behind it
 abbrev pub From : {A : Type 0} → (A → A → Type 0) → A → List A → Type 0
 From R x [] = Unit {0}
 From R x (y ∷ ys) = R x y × From R y ys
 
+-- each of a list and the one behind it
 abbrev pub InARow : {A : Type 0} → (A → A → Type 0) → List A → Type 0
 InARow R [] = Unit {0}
 InARow R (x ∷ xs) = From R x xs
