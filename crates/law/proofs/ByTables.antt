@@ -25,6 +25,7 @@ use Rattle.law.specs.ByTables.{hostHas, ByLaw, OneReading, ByTables}
 use Rattle.law.proofs.Calls.{leaves, leavesState, exchange-good, reset-good, enable-good}
 use Rattle.law.proofs.Complete.{complete}
 use Rattle.law.proofs.Numbered.{fault-is}
+use Rattle.law.proofs.Octets.{in-octets}
 use Rattle.law.proofs.OneSheet.{one-sheet}
 use Rattle.law.proofs.Place.{fault-told}
 use Rattle.law.proofs.Plays.{leavesReplay, replay-good}
@@ -53,7 +54,7 @@ one-reading = record {
       let b = fault-is s g q o y in
       let e = same-fault (sym (a .2) ∙ b .2) in
       (sym (a .1) ∙ ap numberOf (e .0) ∙ b .1, e .1);
-  never-both = λ h f p w o x. no-fault (sym (complete h w) ∙ fault-is (sheetOctets h) f p o x .2);
+  never-both = λ h f p w x. no-fault (sym (complete h w) ∙ fault-is (sheetOctets h) f p (in-octets h w) x .2);
   some-form = λ l trace five. form-exists l five trace;
   one-form = λ l trace a b five. one-form l five trace a b;
 }

@@ -27,6 +27,7 @@ pub mod Calls
 pub mod TraceKinds
 pub mod Traces
 pub mod Plays
+pub mod Octets
 pub mod Numbered
 pub mod Promises
 pub mod ByTables

@@ -24,7 +24,7 @@ pub record OneReading : Type 0 where
   pub some-reading : (s : List ℕ) → Every IsOctet s → ((h : Sheet) × WellFormed h × (s ≡ sheetOctets h)) ⊎ ((f : ℕ) × (p : ℕ) × FirstFault s f p)
   pub one-sheet : (a b : Sheet) → WellFormed a → WellFormed b → sheetOctets a ≡ sheetOctets b → a ≡ b
   pub one-fault : (s : List ℕ) (f g p q : ℕ) → Every IsOctet s → FirstFault s f p → FirstFault s g q → (f ≡ g) × (p ≡ q)
-  pub never-both : (h : Sheet) (f p : ℕ) → WellFormed h → Every IsOctet (sheetOctets h) → FirstFault (sheetOctets h) f p → ⊥
+  pub never-both : (h : Sheet) (f p : ℕ) → WellFormed h → FirstFault (sheetOctets h) f p → ⊥
   pub some-form : (l : ℕ) (trace : List ℕ) → FiveLengths l → (form : Form) × HasForm l trace form
   pub one-form : (l : ℕ) (trace : List ℕ) (a b : Form) → FiveLengths l → HasForm l trace a → HasForm l trace b → a ≡ b
 
