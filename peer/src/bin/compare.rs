@@ -9,10 +9,11 @@
 
 use peer::crash::report_crashes;
 use peer::t24::T24;
+use peer::trial::call::Call;
 use peer::trial::guarded::Guarded;
 use peer::trial::probe::Outcome;
 use peer::trial::progress::Progress;
-use peer::trial::rig::{Call, Rig};
+use peer::trial::rig::Rig;
 use peer::trial::{compare, random_sequences};
 use std::process::ExitCode;
 

@@ -142,7 +142,7 @@ fn parameter(sheet: &Sheet, command: &[u8], right: u8) -> Result<Transfer, u8> {
     let parameter = sheet.find_parameter(number).ok_or(ALARM_DATA)?;
     let length = usize::from(parameter.size);
     require(command[6] == parameter.size && length <= command.len() - SHORT_HEAD)?;
-    let span = find_span(sheet, parameter.address, length).ok_or(ALARM_DATA)?;
+    let span = find_span(sheet.regions(), parameter.address, length).ok_or(ALARM_DATA)?;
     Ok(Transfer {
         place: permitted(span, right)?,
         length,
@@ -177,7 +177,7 @@ fn memory(sheet: &Sheet, command: &[u8], right: u8) -> Result<Transfer, u8> {
     let length = usize::from(number_16(command, 6)) * element;
     // At L 8 no length passes, so the address behind octet 7 is not looked at.
     require(length >= 1 && length <= command.len().saturating_sub(MEMORY_HEAD))?;
-    let span = find_span(sheet, number_32(command, 8), length).ok_or(ALARM_DATA)?;
+    let span = find_span(sheet.regions(), number_32(command, 8), length).ok_or(ALARM_DATA)?;
     Ok(Transfer {
         place: permitted(span, right)?,
         length,

@@ -1,6 +1,4 @@
-//! Spans of virtual addresses, found in the regions of a sheet.
-
-use super::sheet::Sheet;
+//! Regions of a sheet, and spans of virtual addresses found in them.
 
 /// The right to read.
 pub const READ: u8 = 1;
@@ -35,15 +33,15 @@ pub struct Span {
 
 /// The span of `size` octets (at least 1), if each of them is in a region.
 ///
-/// Regions rise, so one pass suffices, and a span that goes on in the next
-/// region goes on at the next place of the memory too.
-pub fn find_span(sheet: &Sheet, address: u32, size: usize) -> Option<Span> {
+/// A sheet's regions rise, so one pass suffices, and a span that goes on in the
+/// next region goes on at the next place of the memory too.
+pub fn find_span(regions: impl Iterator<Item = Region>, address: u32, size: usize) -> Option<Span> {
     let mut wanted = u64::from(address);
     let end = wanted + size as u64;
     let mut place = None;
     let mut rights = RIGHTS;
     let mut storage = 0;
-    for region in sheet.regions() {
+    for region in regions {
         if wanted < region.start {
             return None;
         }

@@ -154,7 +154,8 @@ impl<'a> Sheet<'a> {
         if before.map_or(false, |before| parameter.number <= before.number) {
             return Err(answer::ORDER);
         }
-        find_span(self, parameter.address, usize::from(parameter.size)).ok_or(answer::SPAN)?;
+        let size = usize::from(parameter.size);
+        find_span(self.regions(), parameter.address, size).ok_or(answer::SPAN)?;
         self.parameters += 1;
         Ok(())
     }

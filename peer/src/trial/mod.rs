@@ -1,6 +1,7 @@
 //! Two engines beside each other: inputs, guarded buffers, and the comparison.
 
 pub mod build;
+pub mod call;
 pub mod commands;
 pub mod damage;
 pub mod directed;
@@ -16,6 +17,7 @@ pub mod report;
 pub mod rig;
 pub mod runs;
 pub mod samples;
+pub mod side;
 pub mod states;
 pub mod tally;
 

@@ -1,9 +1,10 @@
 //! Steps that directed and random trials share.
 
 use super::build;
+use super::call::Call;
 use super::plan::Plan;
 use super::report::Difference;
-use super::rig::{Call, Rig};
+use super::rig::Rig;
 use super::states::{plain_state, ASYNC, DISABLED, SYNC};
 use crate::engine::memory_mode;
 

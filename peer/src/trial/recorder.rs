@@ -1,7 +1,7 @@
 //! Records a trace while commands are exchanged on the engine of this crate.
 
+use super::call::Inputs;
 use super::plan::LENGTHS;
-use super::rig::Inputs;
 use crate::engine;
 
 /// A trace with the state and memory it starts from.

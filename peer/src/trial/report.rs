@@ -1,6 +1,7 @@
 //! A difference with all that is needed to repeat it.
 
-use super::rig::{Call, Inputs, Side};
+use super::call::{Call, Inputs};
+use super::side::Side;
 use std::fmt;
 
 /// The whole report of the first difference, ready to print.

@@ -1,113 +1,17 @@
 //! Runs one call on both engines and compares all they leave behind.
 
+use super::call::{Call, Inputs};
 use super::engines::{Engine, PEER};
 use super::guarded::Guarded;
 use super::progress::Progress;
 use super::report::Difference;
+use super::side::Side;
 use super::tally::Tally;
 use std::ptr::null_mut;
 use std::sync::atomic::{AtomicPtr, Ordering};
 
 /// The rig whose other engine is at work, for the report if that one crashes.
 pub static AT_WORK: AtomicPtr<Rig> = AtomicPtr::new(null_mut());
-
-/// The functions of an engine.
-#[derive(Clone, Copy, Debug, PartialEq, Eq, PartialOrd, Ord)]
-pub enum Call {
-    Sheet,
-    Lengths,
-    Reset,
-    Enable,
-    Exchange,
-    Replay,
-}
-
-/// What is lent to a call. State and memory stay for the next call.
-#[derive(Clone, Debug, Default)]
-pub struct Inputs {
-    pub sheet: Vec<u8>,
-    pub state: Vec<u8>,
-    pub memory: Vec<u8>,
-    pub command: Vec<u8>,
-    pub reply: Vec<u8>,
-    pub trace: Vec<u8>,
-}
-
-/// One engine with its own guarded copies of what is lent.
-pub struct Side {
-    engine: Engine,
-    /// Nothing until the call has come back.
-    pub answer: Option<u64>,
-    pub sheet: Guarded,
-    pub state: Guarded,
-    pub memory: Guarded,
-    pub command: Guarded,
-    pub reply: Guarded,
-    pub trace: Guarded,
-}
-
-impl Side {
-    fn new(engine: Engine, salt: u8, buffer: fn(u8) -> Guarded) -> Side {
-        Side {
-            engine,
-            answer: None,
-            sheet: buffer(salt),
-            state: buffer(salt ^ 1),
-            memory: buffer(salt ^ 2),
-            command: buffer(salt ^ 3),
-            reply: buffer(salt ^ 4),
-            trace: buffer(salt ^ 5),
-        }
-    }
-
-    /// A long trace takes the place of the guarded one, and is not copied.
-    fn run(&mut self, call: Call, inputs: &Inputs, long: Option<&[u8]>) {
-        self.sheet.load(&inputs.sheet);
-        self.state.load(&inputs.state);
-        self.memory.load(&inputs.memory);
-        self.command.load(&inputs.command);
-        self.reply.load(&inputs.reply);
-        self.trace.load(&inputs.trace);
-        let sheet = self.sheet.lend();
-        let (state, memory) = (self.state.lend_mut(), self.memory.lend_mut());
-        let (command, reply) = (self.command.lend(), self.reply.lend_mut());
-        self.answer = None;
-        self.answer = Some(match call {
-            Call::Sheet => (self.engine.sheet)(sheet),
-            Call::Lengths => (self.engine.lengths)(sheet),
-            Call::Reset => (self.engine.reset)(sheet, state),
-            Call::Enable => (self.engine.enable)(sheet, state),
-            Call::Exchange => (self.engine.exchange)(sheet, state, memory, command, reply),
-            Call::Replay => {
-                let trace = long.unwrap_or(self.trace.lend());
-                (self.engine.replay)(sheet, state, memory, trace)
-            }
-        });
-    }
-
-    /// What may be written, in one order for both sides.
-    fn written(&self) -> [&[u8]; 3] {
-        [self.state.lend(), self.memory.lend(), self.reply.lend()]
-    }
-
-    fn guards_intact(&self) -> bool {
-        let all = [
-            &self.sheet,
-            &self.state,
-            &self.memory,
-            &self.command,
-            &self.reply,
-            &self.trace,
-        ];
-        all.iter().all(|buffer| buffer.intact())
-    }
-
-    fn read_only_kept(&self, inputs: &Inputs) -> bool {
-        self.sheet.lend() == inputs.sheet.as_slice()
-            && self.command.lend() == inputs.command.as_slice()
-            && self.trace.lend() == inputs.trace.as_slice()
-    }
-}
 
 /// Both engines, the inputs of the next call, and what has been seen so far.
 pub struct Rig {

@@ -1,5 +1,6 @@
 //! Random sequences of calls on one sheet, each from its own random numbers.
 
+use super::call::Call;
 use super::commands::random_command;
 use super::damage::damaged_sheet;
 use super::layout::random_plan;
@@ -7,7 +8,7 @@ use super::plan::Plan;
 use super::probe::{judge_sheet_briefly, Outcome};
 use super::random::Random;
 use super::recorder::Recorder;
-use super::rig::{Call, Rig};
+use super::rig::Rig;
 use super::states::{damaged_state, plain_state, random_state, DISABLED};
 
 /// Steps of one sequence.

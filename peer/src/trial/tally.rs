@@ -1,7 +1,7 @@
 //! Counts of what the calls have reached, so that coverage can be seen.
 
+use super::call::{Call, Inputs};
 use super::commands::CODES;
-use super::rig::{Call, Inputs};
 use super::states::{ASYNC, LINK_AT, SYNC};
 use crate::engine::memory_mode;
 use crate::engine::octets::{number_16, number_32};

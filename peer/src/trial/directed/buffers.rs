@@ -2,9 +2,10 @@
 //! refusals is seen and nothing is written on any of them.
 
 use crate::trial::build::{connect, distinct_octets};
+use crate::trial::call::Call;
 use crate::trial::plan::{Plan, LENGTHS};
 use crate::trial::probe::Outcome;
-use crate::trial::rig::{Call, Rig};
+use crate::trial::rig::Rig;
 use crate::trial::samples::both_ends;
 use crate::trial::states::{plain_state, ASYNC, DISABLED, DISCONNECTED};
 

@@ -1,9 +1,10 @@
 //! State records with every octet and every pair of agreeing fields.
 
 use crate::trial::build::distinct_octets;
+use crate::trial::call::Call;
 use crate::trial::plan::{Plan, LENGTHS};
 use crate::trial::probe::Outcome;
-use crate::trial::rig::{Call, Rig};
+use crate::trial::rig::Rig;
 use crate::trial::samples::both_ends;
 use crate::trial::states::{counting_state, plain_state};
 

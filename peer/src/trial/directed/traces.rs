@@ -2,10 +2,11 @@
 
 use crate::engine::memory_mode;
 use crate::trial::build;
+use crate::trial::call::Call;
 use crate::trial::plan::{Plan, LENGTHS};
 use crate::trial::probe::{take_plan, Outcome};
 use crate::trial::recorder::Recorder;
-use crate::trial::rig::{Call, Rig};
+use crate::trial::rig::Rig;
 use crate::trial::samples::both_ends;
 use crate::trial::states::{plain_state, ASYNC, DISABLED};
 

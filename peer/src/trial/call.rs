@@ -1,0 +1,23 @@
+//! A call on an engine: which function, and what is lent to it.
+
+/// The function of an engine that is called.
+#[derive(Clone, Copy, Debug, PartialEq, Eq, PartialOrd, Ord)]
+pub enum Call {
+    Sheet,
+    Lengths,
+    Reset,
+    Enable,
+    Exchange,
+    Replay,
+}
+
+/// What is lent to a call. State and memory stay for the next call.
+#[derive(Clone, Debug, Default)]
+pub struct Inputs {
+    pub sheet: Vec<u8>,
+    pub state: Vec<u8>,
+    pub memory: Vec<u8>,
+    pub command: Vec<u8>,
+    pub reply: Vec<u8>,
+    pub trace: Vec<u8>,
+}

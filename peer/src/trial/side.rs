@@ -1,0 +1,84 @@
+//! One of the two engines, with what it is lent and what it leaves behind.
+
+use super::call::{Call, Inputs};
+use super::engines::Engine;
+use super::guarded::Guarded;
+
+/// One engine with its own guarded copies of what is lent.
+pub struct Side {
+    engine: Engine,
+    /// Nothing until the call has come back.
+    pub answer: Option<u64>,
+    pub sheet: Guarded,
+    pub state: Guarded,
+    pub memory: Guarded,
+    pub command: Guarded,
+    pub reply: Guarded,
+    pub trace: Guarded,
+}
+
+impl Side {
+    /// The salts of two sides differ, so that a guard that is read shows up.
+    pub fn new(engine: Engine, salt: u8, buffer: fn(u8) -> Guarded) -> Side {
+        Side {
+            engine,
+            answer: None,
+            sheet: buffer(salt),
+            state: buffer(salt ^ 1),
+            memory: buffer(salt ^ 2),
+            command: buffer(salt ^ 3),
+            reply: buffer(salt ^ 4),
+            trace: buffer(salt ^ 5),
+        }
+    }
+
+    /// Calls the engine; a long trace takes the place of the guarded one, and is not copied.
+    pub fn run(&mut self, call: Call, inputs: &Inputs, long: Option<&[u8]>) {
+        self.sheet.load(&inputs.sheet);
+        self.state.load(&inputs.state);
+        self.memory.load(&inputs.memory);
+        self.command.load(&inputs.command);
+        self.reply.load(&inputs.reply);
+        self.trace.load(&inputs.trace);
+        let sheet = self.sheet.lend();
+        let (state, memory) = (self.state.lend_mut(), self.memory.lend_mut());
+        let (command, reply) = (self.command.lend(), self.reply.lend_mut());
+        self.answer = None;
+        self.answer = Some(match call {
+            Call::Sheet => (self.engine.sheet)(sheet),
+            Call::Lengths => (self.engine.lengths)(sheet),
+            Call::Reset => (self.engine.reset)(sheet, state),
+            Call::Enable => (self.engine.enable)(sheet, state),
+            Call::Exchange => (self.engine.exchange)(sheet, state, memory, command, reply),
+            Call::Replay => {
+                let trace = long.unwrap_or(self.trace.lend());
+                (self.engine.replay)(sheet, state, memory, trace)
+            }
+        });
+    }
+
+    /// What may be written, in one order for both sides.
+    pub fn written(&self) -> [&[u8]; 3] {
+        [self.state.lend(), self.memory.lend(), self.reply.lend()]
+    }
+
+    /// Whether no octet outside a buffer has changed.
+    pub fn guards_intact(&self) -> bool {
+        let all = [
+            &self.sheet,
+            &self.state,
+            &self.memory,
+            &self.command,
+            &self.reply,
+            &self.trace,
+        ];
+        all.iter().all(|buffer| buffer.intact())
+    }
+
+    /// Whether what was lent for reading is as it was lent.
+    pub fn read_only_kept(&self, inputs: &Inputs) -> bool {
+        self.sheet.lend() == inputs.sheet.as_slice()
+            && self.command.lend() == inputs.command.as_slice()
+            && self.trace.lend() == inputs.trace.as_slice()
+    }
+}
