@@ -33,7 +33,7 @@ use Rattle.sheet.specs.declared.walk.Verdict.{Verdict}
 use Rattle.sheet.specs.declared.walk.Verdict.the-variants.{Valid}
 use Rattle.sheet.proofs.Steps.{region-there, parameter-there, code-there}
 use Rattle.law.specs.Words.{Every, Some, joined, sumOf}
-use Rattle.law.specs.Sheet.{Region as Area, Parameter as Param, Item as Ident, Sheet, GoodRegion, GoodParameter, GoodItem, WellFormed, FiveLengths, Has, regionOctets, parameterOctets, itemOctets, written, sheetOctets, room}
+use Rattle.law.specs.Sheet.{Region as Area, Parameter as Param, Item as Ident, Sheet, GoodRegion, GoodParameter, GoodItem, WellFormed, FiveLengths, InRegion, regionOctets, parameterOctets, itemOctets, written, sheetOctets, room}
 use Rattle.law.proofs.Written.{le2-back, le4-back}
 use Rattle.law.proofs.Running.{Ends, walk-on, run-all, length-joined}
 use Rattle.law.proofs.Layouts.{layoutFor, counts, countsFor, asRegion, asParameter}
@@ -104,7 +104,7 @@ module _ (s : List ℕ) where
       ap₂ _∷_ (area-at r (joined regionOctets rs ++ t) n at (g .0)) (regions-listed rs t (suc n) there (g .1))
 
   -- an address that the paper finds in a region, the search finds
-  has-grants : (rs : List Area) (a : ℕ) → Some (Has a) rs → grantsOf (map asRegion rs) Mapped a ≡ true
+  has-grants : (rs : List Area) (a : ℕ) → Some (InRegion a) rs → grantsOf (map asRegion rs) Mapped a ≡ true
   unfolding grantsOf givesOf
   has-grants [] a h = absurd h
   has-grants (r ∷ rs) a h =
@@ -112,8 +112,8 @@ module _ (s : List ℕ) where
       (λ (k : holdsOf (asRegion r) a ≡ true). pick-yes _ _ k)
       (λ (k : holdsOf (asRegion r) a ≡ false).
       ⊎-elim
-      (λ (j : Has a r). pick-yes _ _ (bounds-hold (asRegion r) a (j .0) (j .1)))
-      (λ (j : Some (Has a) rs). pick-no _ _ k ∙ has-grants rs a j)
+      (λ (j : InRegion a r). pick-yes _ _ (bounds-hold (asRegion r) a (j .0) (j .1)))
+      (λ (j : Some (InRegion a) rs). pick-no _ _ k ∙ has-grants rs a j)
       h)
       (decided (holdsOf (asRegion r) a))
 
@@ -164,9 +164,9 @@ module _ (s : List ℕ) where
     tail-zero i t g =
         let z = i .length in
         let e₁ : drop (3 + z) (itemOctets i ++ t) ≡ drop z (i .octets) ++ t =
-        sym (drop-drop z 3 (itemOctets i ++ t)) ∙ drop-append-le z (i .octets) t (omega (arith, g .most, g .room)) in
+        sym (drop-drop z 3 (itemOctets i ++ t)) ∙ drop-append-le z (i .octets) t (omega (arith, g .most, g .all32)) in
         let e₂ : take (32 - z) (drop z (i .octets) ++ t) ≡ drop z (i .octets) =
-        take-at (drop z (i .octets)) t (32 - z) (length-drop z (i .octets) ∙ ap (λ (k : ℕ). k - z) (g .room)) in
+        take-at (drop z (i .octets)) t (32 - z) (length-drop z (i .octets) ∙ ap (λ (k : ℕ). k - z) (g .all32)) in
         ap allZero (ap (take (32 - z)) e₁ ∙ e₂) ∙ zeros-zero (drop z (i .octets)) (g .zeros)
 
     judged-ident : (i : Item) (n least : ℕ) (tail : Bool) → 1 ≤ i .length → i .length ≤ 32 → tail ≡ true → least ≤ i .code → n < 32
@@ -180,7 +180,7 @@ module _ (s : List ℕ) where
     unfolding bodyOf itemOf itemFrom sizeOf misplacedOf
     read-ident i t n at g l u =
         let a = length-append (i .octets) t in
-        let o = g .room in
+        let o = g .all32 in
         behind-link s 4 35 _ (identsRead n) (shorter s (itemOctets i ++ t) (4 + 10 * r + 8 * p + 35 * n) at (omega arith) (omega arith)) refl (omega arith)
         (pick-no _ _ refl ∙ pick-no _ _ refl ∙ pick-no _ _ refl ∙ pick-no _ _ refl) (omega arith)
         ∙ pick-no _ _ refl ∙ pick-no _ _ refl ∙ pick-no _ _ refl ∙ pick-no _ _ refl
@@ -240,7 +240,7 @@ unfolding leastCode
 none-coded s r p m = pick-yes _ _ refl
 
 pub ident-long : (i : Ident) → GoodItem i → length (itemOctets i) ≡ 35
-ident-long i g = ap (λ (n : ℕ). suc (suc (suc n))) (g .room)
+ident-long i g = ap (λ (n : ℕ). suc (suc (suc n))) (g .all32)
 
 -- the walk over the writing of a well-formed sheet comes to what stands behind it
 pub come-behind : (h : Sheet) → WellFormed h → (rest : List ℕ) (v : Verdict) → length (written h rest) ≤ 2048

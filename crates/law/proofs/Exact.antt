@@ -68,7 +68,7 @@ read-back h rest w =
     let b = all-back parameterOctets (λ (j : ℕ). asParam (parameterAt s r j)) (GoodParameter (h .regions)) 8 (4 + 10 * r) s (λ x g. refl)
     (λ x t n at g. ap asParam (param-at s (h .regions) (room (h .regions)) same x t n at g)) (h .parameters) ti at-p (w .parameters) in
     let c = all-back itemOctets (λ (k : ℕ). identFrom s (4 + 10 * r + 8 * p + 35 * k)) GoodItem 35 (4 + 10 * r + 8 * p) s ident-long
-    (λ x t n at g. sym (ident-there s (4 + 10 * r + 8 * p + 35 * n)) ∙ ap (λ (l : List ℕ). identFrom l 0) at ∙ ident-same x t (g .room)) (h .items) rest at-k (w .items) in
+    (λ x t n at g. sym (ident-there s (4 + 10 * r + 8 * p + 35 * n)) ∙ ap (λ (l : List ℕ). identFrom l 0) at ∙ ident-same x t (g .all32)) (h .items) rest at-k (w .items) in
     λ i. record { l = h .l; version = h .version; profile = h .profile; regions = a i; parameters = b i; items = c i }
 
 bad-ends : (s rest : List ℕ) (so : Counts) (f : Fault) → recordOf s rest so ≡ Bad f → Ends s (Faulty f (placeOf s rest)) rest so

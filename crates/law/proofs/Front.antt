@@ -28,7 +28,7 @@ use Rattle.sheet.specs.declared.entries.Parameter.{Parameter}
 use Rattle.sheet.specs.declared.records.Counts.{Counts}
 use Rattle.sheet.proofs.Steps.{region-there, parameter-there}
 use Rattle.law.specs.Words.{Every, Some, joined}
-use Rattle.law.specs.Sheet.{Item as Ident, Sheet, GoodRegion, GoodParameter, GoodItem, WellFormed, FiveLengths, IsOctet, Has, regionOctets, parameterOctets, itemOctets, written, room}
+use Rattle.law.specs.Sheet.{Item as Ident, Sheet, GoodRegion, GoodParameter, GoodItem, WellFormed, FiveLengths, IsOctet, InRegion, regionOctets, parameterOctets, itemOctets, written, room}
 use Rattle.law.proofs.Written.{two-octets, four-octets, opened}
 use Rattle.law.proofs.Marks.{Marked}
 use Rattle.law.proofs.Layouts.{layoutFor, asArea, asParam, identFrom}
@@ -84,7 +84,7 @@ drop-take (suc m) (suc n) [] = sym (take-nil (suc n - suc m))
 drop-take (suc m) (suc n) (x ∷ xs) = drop-take m n xs ∙ ap (λ (k : ℕ). take k (drop m xs)) (sym (suc-sub-suc n m))
 
 -- an address that the search finds is in a region of the paper
-pub grants-has : (f : ℕ → Region) (k m a : ℕ) → grantsOf (listed f k m) Mapped a ≡ true → Some (Has a) (listed (λ (i : ℕ). asArea (f i)) k m)
+pub grants-has : (f : ℕ → Region) (k m a : ℕ) → grantsOf (listed f k m) Mapped a ≡ true → Some (InRegion a) (listed (λ (i : ℕ). asArea (f i)) k m)
 unfolding grantsOf givesOf listed
 grants-has f k zero a e = absurd (true≢false (sym e))
 grants-has f k (suc m) a e =
@@ -208,7 +208,7 @@ module _ (s : List ℕ) (octs : Every IsOctet s) where
           code = o (b + 1);
           some = g .some;
           most = g .most;
-          room = length-take-le 32 (drop (b + 3) s) (omega arith);
+          all32 = length-take-le 32 (drop (b + 3) s) (omega arith);
           octets = octets-take 32 (drop (b + 3) s) (octets-drop (b + 3) s octs);
           zeros = zeros-back _ (ap allZero (sym e) ∙ mk .items k h .1);
         }

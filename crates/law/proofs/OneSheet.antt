@@ -31,8 +31,8 @@ ident-once a b t u g h e =
     let c : a .code ≡ b .code = ap (λ (l : List ℕ). getD l 1 0) e in
     let z : a .length ≡ b .length = ap (λ (l : List ℕ). getD l 2 0) e in
     let r : a .octets ++ t ≡ b .octets ++ u = ap (drop 3) e in
-    let o : a .octets ≡ b .octets = sym (take-at (a .octets) t 32 (g .room)) ∙ ap (take 32) r ∙ take-at (b .octets) u 32 (h .room) in
-    (λ i. record { code = c i; length = z i; octets = o i }, sym (drop-at (a .octets) t 32 (g .room)) ∙ ap (drop 32) r ∙ drop-at (b .octets) u 32 (h .room))
+    let o : a .octets ≡ b .octets = sym (take-at (a .octets) t 32 (g .all32)) ∙ ap (take 32) r ∙ take-at (b .octets) u 32 (h .all32) in
+    (λ i. record { code = c i; length = z i; octets = o i }, sym (drop-at (a .octets) t 32 (g .all32)) ∙ ap (drop 32) r ∙ drop-at (b .octets) u 32 (h .all32))
 
 -- the octet that a list begins with
 abbrev first : List ℕ → ℕ

@@ -35,7 +35,7 @@ use Rattle.law.specs.State.{link, validState}
 use Rattle.law.specs.Memory.{cells}
 use Rattle.law.specs.Exchange.{fateOf}
 use Rattle.law.specs.Calls.{Result, result, done}
-use Rattle.law.specs.Trace.{Traced, Whole, Form, records, fault, HasForm, alike, played, playedForm, replay}
+use Rattle.law.specs.Trace.{Traced, Whole, Form, wholeRecords, fault, HasForm, alike, played, playedForm, replay}
 use Rattle.law.proofs.Calls.{leaves, done-same}
 use Rattle.law.proofs.Clauses.{state-yes, state-no}
 use Rattle.law.proofs.Complete.{complete}
@@ -138,7 +138,7 @@ module _ (h : Sheet) (w : WellFormed h) where
       → leavesReplay (pick (not (eqb (checkedForm (h .l) trace .number) 0)) (replayed (checkedForm (h .l) trace) s m)
       (playOf (sheetOctets h) (h .l) 0 s m (tracedOf (h .l) trace)))
       ≡ playedForm h s m form
-  form-same trace s m ready short (records ts) f =
+  form-same trace s m ready short (wholeRecords ts) f =
       let e = checked-short (h .l) trace short ∙ form-clean (h .l) (w .l) trace ts f in
       ap leavesReplay (pick-same _ _ (ap (λ (x : Answer). x .number) e))
       ∙ ap (λ (x : List machine.Traced). leavesReplay (playOf (sheetOctets h) (h .l) 0 s m x)) (form-records (h .l) (w .l) trace ts f)

@@ -30,7 +30,7 @@ use Rattle.sheet.specs.declared.records.Fault.{Fault}
 use Rattle.sheet.specs.declared.records.Fault.the-variants.{Range, Disorder, Excess, Unmapped}
 use Rattle.sheet.specs.declared.records.Reading.the-variants.{Bad}
 use Rattle.law.specs.Words.{Every, InARow, Some}
-use Rattle.law.specs.Sheet.{Region as Area, Parameter as Param, Item as Ident, GoodRegion, GoodItem, IsOctet, Has, room}
+use Rattle.law.specs.Sheet.{Region as Area, Parameter as Param, Item as Ident, GoodRegion, GoodItem, IsOctet, InRegion, room}
 use Rattle.law.specs.Faults.{RegionFault, ParameterFault, ItemFault}
 use Rattle.law.proofs.Checks.{decides, passes, no-more, row-more, row-last, sum-more}
 use Rattle.law.proofs.Front.{readSheet, grants-has, zeros-back, octet-at, octets-drop, octets-take, drop-take}
@@ -38,7 +38,7 @@ use Rattle.law.proofs.Complete.{zeros-zero}
 use Rattle.law.proofs.Layouts.{asArea, asParam, identFrom}
 use Rattle.law.proofs.Listed.{length-listed}
 
-has-listed : (f : ℕ → Region) (k m a : ℕ) → Some (Has a) (listed (λ (i : ℕ). asArea (f i)) k m) → grantsOf (listed f k m) Mapped a ≡ true
+has-listed : (f : ℕ → Region) (k m a : ℕ) → Some (InRegion a) (listed (λ (i : ℕ). asArea (f i)) k m) → grantsOf (listed f k m) Mapped a ≡ true
 unfolding grantsOf givesOf listed
 has-listed f k zero a e = absurd e
 has-listed f k (suc m) a e =
@@ -46,8 +46,8 @@ has-listed f k (suc m) a e =
     (λ (h : holdsOf (f k) a ≡ true). pick-yes _ _ h)
     (λ (h : holdsOf (f k) a ≡ false).
     ⊎-elim
-    (λ (j : Has a (asArea (f k))). pick-yes _ _ (bounds-hold (f k) a (j .0) (j .1)))
-    (λ (j : Some (Has a) (listed (λ (i : ℕ). asArea (f i)) (suc k) m)). pick-no _ _ h ∙ has-listed f (suc k) m a j)
+    (λ (j : InRegion a (asArea (f k))). pick-yes _ _ (bounds-hold (f k) a (j .0) (j .1)))
+    (λ (j : Some (InRegion a) (listed (λ (i : ℕ). asArea (f i)) (suc k) m)). pick-no _ _ h ∙ has-listed f (suc k) m a j)
     e)
     (decided (holdsOf (f k) a))
 
@@ -156,7 +156,7 @@ module _ (s : List ℕ) (so : Counts) (fault : Fault) (memory : room (readSheet 
           code = octet-at rest octs 1;
           some = omega arith;
           most = ltb-false 32 (getD rest 2 0) t₂;
-          room = length-take-le 32 (drop 3 rest) (omega arith);
+          all32 = length-take-le 32 (drop 3 rest) (omega arith);
           octets = octets-take 32 (drop 3 rest) (octets-drop 3 rest octs);
           zeros = zeros-back _ (ap allZero (sym tail-is) ∙ not-false _ t₃);
         })

@@ -21,7 +21,7 @@ use Rattle.replay.proofs.Forms.{form-end, form-bad, form-on}
 use Rattle.replay.proofs.Plays.{traced-all}
 use Rattle.law.specs.Words.{Every, joined}
 use Rattle.law.specs.Sheet.{FiveLengths}
-use Rattle.law.specs.Trace.{Traced, kindFor, tracedOctets, Whole, TracedFault, Form, records, fault, HasForm}
+use Rattle.law.specs.Trace.{Traced, kindFor, tracedOctets, Whole, TracedFault, Form, wholeRecords, fault, HasForm}
 use Rattle.law.proofs.Running.{length-joined}
 use Rattle.law.proofs.TraceKinds.{fault-none, fault-back, fault-found}
 
@@ -56,7 +56,7 @@ module _ (l : ℕ) where
   module _ (five : FiveLengths l) where
     -- a form with one record more at the front
     one-before : (t : Traced) → Whole l t → (rest : List ℕ) → (form : Form) × HasForm l rest form → (form : Form) × HasForm l (tracedOctets l t ++ rest) form
-    one-before t w rest (records ts, (all, e)) = (records (t ∷ ts), ((w, all), ap (λ (x : List ℕ). tracedOctets l t ++ x) e))
+    one-before t w rest (wholeRecords ts, (all, e)) = (wholeRecords (t ∷ ts), ((w, all), ap (λ (x : List ℕ). tracedOctets l t ++ x) e))
     one-before t w rest (fault f place, (ts, more, all, e, here, some, bad)) =
         let a = length-append (tracedOctets l t) rest in (
           fault f (recordSize l + place),
@@ -73,7 +73,7 @@ module _ (l : ℕ) where
 
     exists : (n : ℕ) (trace : List ℕ) → length trace < n → (form : Form) × HasForm l trace form
     exists zero trace h = absurd (let w : ⊥ = omega arith in w)
-    exists (suc n) [] h = (records [], (tt, refl))
+    exists (suc n) [] h = (wholeRecords [], (tt, refl))
     exists (suc n) (x ∷ xs) h =
         let trace : List ℕ = x ∷ xs in
         ⊎-elim
@@ -138,7 +138,7 @@ module _ (l : ℕ) where
           le-mul : (n k : ℕ) → n ≤ (1 + k) * n
           le-mul n k = let s = suc-mul k n in let z : 1 + k ≡ suc k = omega arith in subst (λ (i : ℕ). n ≤ i * n) (sym z) (omega arith)
 
-      pub form-clean : (ts : List Traced) → HasForm l trace (records ts) → formOf l trace ≡ told 0 0
+      pub form-clean : (ts : List Traced) → HasForm l trace (wholeRecords ts) → formOf l trace ≡ told 0 0
       form-clean ts (all, e) =
           let e₀ : trace ≡ joined (tracedOctets l) ts ++ [] = e ∙ sym (append-nil (joined (tracedOctets l) ts)) in
           let a = ap length e₀ ∙ long ts [] all in
@@ -173,7 +173,7 @@ module _ (l : ℕ) where
         ∙ (λ i. traced (c i) (r i) ∷ recordsOf l (length ts) (b i))
         ∙ ap (λ (x : List machine.Traced). asTraced t ∷ x) (cut-all ts rest (all .1))
 
-    pub form-records : (trace : List ℕ) (ts : List Traced) → HasForm l trace (records ts) → tracedOf l trace ≡ map asTraced ts
+    pub form-records : (trace : List ℕ) (ts : List Traced) → HasForm l trace (wholeRecords ts) → tracedOf l trace ≡ map asTraced ts
     form-records trace ts (all, e) =
         let e₀ : trace ≡ joined (tracedOctets l) ts ++ [] = e ∙ sym (append-nil (joined (tracedOctets l) ts)) in
         let a = ap length e₀ ∙ long trace ts [] all in
@@ -189,11 +189,11 @@ module _ (l : ℕ) where
     back (t ∷ ts) = ap (λ (x : List Traced). t ∷ x) (back ts)
 
     pub one-form : (trace : List ℕ) (a b : Form) → HasForm l trace a → HasForm l trace b → a ≡ b
-    one-form trace (records ts) (records us) x y =
-        ap records (sym (back ts) ∙ ap (map (λ (t : machine.Traced). record { command = t .command; reply = t .reply })) (sym (form-records trace ts x) ∙ form-records trace us y) ∙ back us)
-    one-form trace (records ts) (fault f p) x y =
+    one-form trace (wholeRecords ts) (wholeRecords us) x y =
+        ap wholeRecords (sym (back ts) ∙ ap (map (λ (t : machine.Traced). record { command = t .command; reply = t .reply })) (sym (form-records trace ts x) ∙ form-records trace us y) ∙ back us)
+    one-form trace (wholeRecords ts) (fault f p) x y =
         let q = form-faulty trace f p y in absurd (q .1 (same-told (sym (q .0) ∙ form-clean trace ts x) .0))
-    one-form trace (fault f p) (records ts) x y =
+    one-form trace (fault f p) (wholeRecords ts) x y =
         let q = form-faulty trace f p x in absurd (q .1 (same-told (sym (q .0) ∙ form-clean trace ts y) .0))
     one-form trace (fault f p) (fault g q) x y =
         let e = same-told (sym (form-faulty trace f p x .0) ∙ form-faulty trace g q y .0) in

@@ -4,7 +4,7 @@ use mathlib.Core.List.{List, [], _∷_, _++_}
 use mathlib.Core.Logic.{_⊎_}
 use mathlib.Core.Path.{_≡_}
 use lib.ListN.{length, getD}
-use Rattle.law.specs.Words.{Check, NoMore}
+use Rattle.law.specs.Words.{FaultUnless, NoMore}
 use Rattle.law.specs.Sheet.{Region, Parameter, Item, Sheet, GoodRegion, GoodItem, WellFormed, FiveLengths, Apart, NumbersRise, CodesRise, Spanned, FewRegions, FewParameters, FewItems, regionOctets, parameterOctets, itemOctets, written}
 
 -- what stands before the record at fault: nothing, or records of which a sheet could consist
@@ -41,29 +41,29 @@ recordLength (suc (suc (suc (suc n)))) = 35
 -- "field range (14), too many records or too much memory (16), order or overlap (15), parameter span (17)"
 abbrev pub RegionFault : Sheet → Region → ℕ → Type 0
 RegionFault h r =
-    Check 14 (GoodRegion r)
-    (Check 16 (FewRegions (h .regions ++ r ∷ []))
-    (Check 15 (Apart (h .regions ++ r ∷ []))
+    FaultUnless 14 (GoodRegion r)
+    (FaultUnless 16 (FewRegions (h .regions ++ r ∷ []))
+    (FaultUnless 15 (Apart (h .regions ++ r ∷ []))
     NoMore))
 
 abbrev pub ParameterFault : Sheet → Parameter → ℕ → Type 0
 ParameterFault h p =
-    Check 14 ((1 ≤ p .size) × (p .size ≤ 56))
-    (Check 16 (FewParameters (h .parameters ++ p ∷ []))
-    (Check 15 (NumbersRise (h .parameters ++ p ∷ []))
-    (Check 17 (Spanned (h .regions) p)
+    FaultUnless 14 ((1 ≤ p .size) × (p .size ≤ 56))
+    (FaultUnless 16 (FewParameters (h .parameters ++ p ∷ []))
+    (FaultUnless 15 (NumbersRise (h .parameters ++ p ∷ []))
+    (FaultUnless 17 (Spanned (h .regions) p)
     NoMore)))
 
 abbrev pub ItemFault : Sheet → Item → ℕ → Type 0
 ItemFault h i =
-    Check 14 (GoodItem i)
-    (Check 16 (FewItems (h .items ++ i ∷ []))
-    (Check 15 (CodesRise (h .items ++ i ∷ []))
+    FaultUnless 14 (GoodItem i)
+    (FaultUnless 16 (FewItems (h .items ++ i ∷ []))
+    (FaultUnless 15 (CodesRise (h .items ++ i ∷ []))
     NoMore))
 
 -- the record that `rest` begins with, its numbers fitting their octets, and its fault
 abbrev pub BodyFault : Sofar → List ℕ → ℕ → Type 0
-BodyFault nothing rest f = Check 14 (FiveLengths (getD rest 1 0)) NoMore f
+BodyFault nothing rest f = FaultUnless 14 (FiveLengths (getD rest 1 0)) NoMore f
 BodyFault (records h) rest f =
     ((r : Region) × (t : List ℕ) × (rest ≡ regionOctets r ++ t) × (r .start < 4294967296) × (r .length < 4294967296) × RegionFault h r f)
     ⊎ (((p : Parameter) × (t : List ℕ) × (rest ≡ parameterOctets p ++ t) × (p .number < 65536) × (p .address < 4294967296) × ParameterFault h p f)
@@ -72,10 +72,10 @@ BodyFault (records h) rest f =
 -- "sheet ended before an end record (11), unknown kind (12), kind out of place (13), body cut short (11)", then the record's own
 abbrev pub RecordFault : Sofar → List ℕ → ℕ → Type 0
 RecordFault x rest =
-    Check 11 (1 ≤ length rest)
-    (Check 12 (getD rest 0 0 ≤ 4)
-    (Check 13 (InPlace x (getD rest 0 0))
-    (Check 11 (recordLength (getD rest 0 0) ≤ length rest)
+    FaultUnless 11 (1 ≤ length rest)
+    (FaultUnless 12 (getD rest 0 0 ≤ 4)
+    (FaultUnless 13 (InPlace x (getD rest 0 0))
+    (FaultUnless 11 (recordLength (getD rest 0 0) ≤ length rest)
     (BodyFault x rest))))
 
 -- an end record behind at least the link record, and octets behind it

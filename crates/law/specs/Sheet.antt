@@ -68,13 +68,13 @@ pub record GoodRegion (r : Region) : Type 0 where
   pub ends : r .start + r .length ≤ 4294967296
   pub bits : r .rights ≤ 7
 
--- a region has an address
-abbrev pub Has : ℕ → Region → Type 0
-Has a r = (r .start ≤ a) × (a < r .start + r .length)
+-- an address is in a region
+abbrev pub InRegion : ℕ → Region → Type 0
+InRegion a r = (r .start ≤ a) × (a < r .start + r .length)
 
 -- "A parameter's span lies wholly in regions."
 abbrev pub Spanned : List Region → Parameter → Type 0
-Spanned regions p = (a : ℕ) → p .address ≤ a → a < p .address + p .size → Some (Has a) regions
+Spanned regions p = (a : ℕ) → p .address ≤ a → a < p .address + p .size → Some (InRegion a) regions
 
 -- number and address fit 2 and 4 octets. "Parameter size 1 to 56."
 pub record GoodParameter (regions : List Region) (p : Parameter) : Type 0 where
@@ -89,7 +89,7 @@ pub record GoodItem (i : Item) : Type 0 where
   pub code : IsOctet (i .code)
   pub some : 1 ≤ i .length
   pub most : i .length ≤ 32
-  pub room : length (i .octets) ≡ 32
+  pub all32 : length (i .octets) ≡ 32
   pub octets : Every IsOctet (i .octets)
   pub zeros : Every (λ x. x ≡ 0) (drop (i .length) (i .octets))
 

@@ -45,7 +45,8 @@ abbrev pub again : List ℕ → ℕ → ℕ → Piece
 again c from to = piece from (take (to + 1 - from) (drop from c))
 
 -- octet 5 of the memory commands: elements of 1, 2 or 4 octets, 0 where it is none of these. Document 01 has 1 in the high half and 1, 2 or 3 in the low
--- half; by 002, 4.3.3.13, 4.3.3.14 and 5.2.3, the halves stand the other way round, and "002 decides"
+-- half, but "002 decides": it fills the low half with data_type, described as the kind of memory (1 volatile), and the high half with mode, described as
+-- the data type (1, 2, 3); we go by the descriptions, so the low half is 1 and the high half 1, 2 or 3
 abbrev pub element : ℕ → ℕ
 element x = when (eqb x 0x11) 1 (when (eqb x 0x21) 2 (when (eqb x 0x31) 4 0))
 

@@ -5,7 +5,7 @@ use mathlib.Core.List.{List, [], _∷_, _++_}
 use mathlib.Core.Path.{_≡_}
 use lib.Dec.{eqb, ltb}
 use lib.ListN.{length, getD}
-use Rattle.law.specs.Words.{when, Every, Check, NoMore, joined}
+use Rattle.law.specs.Words.{when, Every, FaultUnless, NoMore, joined}
 use Rattle.law.specs.Sheet.{Sheet, room}
 use Rattle.law.specs.State.{link, validState}
 use Rattle.law.specs.Exchange.{fateOf}
@@ -29,19 +29,19 @@ Whole l t = (length (t .command) ≡ l) × (length (t .reply) ≡ l)
 -- "record by record in this order, 31 unknown kind, 32 a kind whose L is not the sheet's, 33 cut record"
 abbrev pub TracedFault : ℕ → List ℕ → ℕ → Type 0
 TracedFault l rest =
-    Check 31 ((0x21 ≤ getD rest 0 0) × (getD rest 0 0 ≤ 0x25))
-    (Check 32 (getD rest 0 0 ≡ kindFor l)
-    (Check 33 (1 + 2 * l ≤ length rest)
+    FaultUnless 31 ((0x21 ≤ getD rest 0 0) × (getD rest 0 0 ≤ 0x25))
+    (FaultUnless 32 (getD rest 0 0 ≡ kindFor l)
+    (FaultUnless 33 (1 + 2 * l ≤ length rest)
     NoMore))
 
 -- the form of a trace: whole records, or the number of the first fault with its place
 pub data Form : Type 0 where
-  records : List Traced → Form
+  wholeRecords : List Traced → Form
   fault : ℕ → ℕ → Form
 
 -- "The whole trace is checked for form before the first exchange"; "the place is the record's first octet"
 abbrev pub HasForm : ℕ → List ℕ → Form → Type 0
-HasForm l trace (records ts) = Every (Whole l) ts × (trace ≡ joined (tracedOctets l) ts)
+HasForm l trace (wholeRecords ts) = Every (Whole l) ts × (trace ≡ joined (tracedOctets l) ts)
 HasForm l trace (fault f place) =
     (ts : List Traced) × (rest : List ℕ) × Every (Whole l) ts × (trace ≡ joined (tracedOctets l) ts ++ rest)
     × (place + length rest ≡ length trace) × (1 ≤ length rest) × TracedFault l rest f
@@ -65,7 +65,7 @@ played h k s m (t ∷ ts) =
     (result 34 (64 * k + alike (x .reply) (t .reply)) s m [])
 
 abbrev pub playedForm : Sheet → List ℕ → List ℕ → Form → Result
-playedForm h s m (records ts) = played h 0 s m ts
+playedForm h s m (wholeRecords ts) = played h 0 s m ts
 playedForm h s m (fault f place) = result f place s m []
 
 -- "Refusals: document 01's sheet, state, memory and Disabled refusals first"; then 35, a refusal of our own, for a trace over 2^30 - 1 octets: up

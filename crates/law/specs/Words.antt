@@ -46,11 +46,11 @@ abbrev pub InARow : {A : Type 0} → (A → A → Type 0) → List A → Type 0
 InARow R [] = Unit {0}
 InARow R (x ∷ xs) = From R x xs
 
--- f is the number of the first check that fails: this one fails, and f is its number; or it holds, and f is a later one's
-abbrev pub Check : ℕ → Type 0 → (ℕ → Type 0) → ℕ → Type 0
-Check number Holds later f = ((Holds → ⊥) × (f ≡ number)) ⊎ (Holds × later f)
+-- f is the fault that is told: what is asked does not hold, and f is its number; or it holds, and f is a later one's
+abbrev pub FaultUnless : ℕ → Type 0 → (ℕ → Type 0) → ℕ → Type 0
+FaultUnless number Holds later f = ((Holds → ⊥) × (f ≡ number)) ⊎ (Holds × later f)
 
--- no check is left, and so none fails
+-- nothing more is asked, and so there is no fault
 abbrev pub NoMore : ℕ → Type 0
 NoMore f = ⊥
 
