@@ -1,7 +1,7 @@
 -- Reset, enable and exchange on the writing of a well-formed sheet.
 use mathlib.Core.Bool.{Bool, true, false, not}
 use mathlib.Core.Logic.{_⊎_, inl, inr, ⊎-elim}
-use mathlib.Core.Path.{_≡_, refl, sym, ap, _∙_}
+use mathlib.Core.Path.{_≡_, refl, sym, ap, subst₂, _∙_}
 use mathlib.Core.List.{List, [], _∷_}
 use Prim.Native.Nat.{ℕ, zero, suc, _≤_}
 use native.Mathlib.Omega.{arith}
@@ -11,6 +11,7 @@ use lib.ListN.{length}
 use Rattle.octets.specs.Pick.{pick}
 use Rattle.octets.proofs.Cases.{decided, eq-or-ne}
 use Rattle.octets.proofs.Pick.{pick-differ, pick-same, pick-eq, pick-ne}
+use Rattle.frame.specs.Body.{Fitting}
 use Rattle.frame.specs.Fields.{commandOf}
 use Rattle.law.proofs.Layouts.{layoutFor}
 use Rattle.law.specs.Words.{when, piece, laid, overFrom, over}
@@ -24,11 +25,13 @@ use Rattle.link.specs.Stored.{octetsOf, fieldsOf, stateOf}
 use Rattle.link.specs.declared.state.LinkState.{LinkState}
 use Rattle.link.proofs.Facts.{Facts}
 use Rattle.machine.specs.Outcomes.{outcomeOf}
+use Rattle.sheet.proofs.Valid.{valid-sheet}
 use Rattle.sheet.specs.declared.walk.Layout.{Layout}
 use Rattle.sheet.specs.declared.walk.Verdict.{Verdict}
 use Rattle.slave.specs.Answers.{told, onSheet, onState}
 use Rattle.slave.specs.Calls.{After, after, resetOf, enableOf}
 use Rattle.slave.specs.Exchange.{Left, left, refusalOf, exchanged, exchangeOf}
+use Rattle.slave.proofs.Fits.{outcome-fits}
 use Rattle.law.proofs.Laid.{when-yes, when-no}
 use Rattle.machine.proofs.Nexts.{outcome-valid}
 use Rattle.law.proofs.Clauses.{state-yes, state-no}
@@ -56,7 +59,9 @@ done-same h w st f m c whole asked on =
     let o = outcomeOf (sheetOctets h) (layoutFor h) st (commandOf c) in
     let same = outcome-same h (sheetOctets h) st m c f on world asked in
     let v = outcome-valid (sheetOctets h) (layoutFor h) st (commandOf c) (h .l) f (some (st .link) on) in
-    let r = reply-same h (sheetOctets h) st m c o (fateOf h (octetsOf st) m c) same (fate-small h (octetsOf st) m c) v asked (world .long) in
+    let fits = subst₂ (λ (x y : ℕ). Fitting (o .effect) x y (length (sheetOctets h))) (sym asked) (sym whole)
+    (outcome-fits (sheetOctets h) (layoutFor h) (valid-sheet (sheetOctets h) (layoutFor h) (complete h w)) st (commandOf c)) in
+    let r = reply-same h (sheetOctets h) st m c o (fateOf h (octetsOf st) m c) same (fate-small h (octetsOf st) m c) v asked (world .long) fits in
     λ i. result 0 0 (same .next i) (same .memory i) (r i)
 
 picked : (b : Bool) (x y : After) {u v : Result} → leavesState x ≡ u → leavesState y ≡ v → leavesState (pick b x y) ≡ when b u v

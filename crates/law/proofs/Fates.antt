@@ -10,10 +10,11 @@ use lib.Dec.{eqb}
 use lib.ListN.{length, getD}
 use Rattle.octets.specs.Pick.{pick}
 use Rattle.octets.proofs.Cases.{eq-or-ne}
-use Rattle.frame.specs.Body.{bodyOf, memoryAfter}
 use Rattle.frame.specs.Fields.{commandOf}
+use Rattle.frame.proofs.Kept.{quiet-keeps}
+use Rattle.frame.proofs.Named.{named, command-named}
 use Rattle.law.proofs.Layouts.{layoutFor}
-use Rattle.law.specs.Words.{when, oneOf, Piece, piece}
+use Rattle.law.specs.Words.{when, oneOf, Piece, piece, laid}
 use Rattle.law.specs.Sheet.{Sheet}
 use Rattle.law.specs.State.{link}
 use Rattle.law.specs.Memory.{readable, writable}
@@ -30,12 +31,12 @@ use Rattle.machine.specs.Spans.{rightOf}
 use Rattle.octets.proofs.Pick.{pick-yes, pick-no}
 use Rattle.regions.specs.Region.{givesOf}
 use Rattle.regions.specs.declared.Right.the-variants.{WriteAsync, WriteSync}
+use Rattle.machine.specs.declared.words.Command.{Command}
 use Rattle.machine.specs.declared.words.Effect.the-variants.{Quiet}
 use Rattle.machine.specs.declared.words.Judgement.{Judgement}
 use Rattle.machine.specs.declared.words.Judgement.the-variants.{Refused, Accepted}
-use Rattle.law.proofs.Laid.{over-none, when-no}
+use Rattle.law.proofs.Laid.{when-no}
 use Rattle.law.proofs.Goes.{in-links, Goes, goes-dropped, goes-synced, goes-lost}
-use Rattle.law.proofs.Rows as rows
 use Rattle.law.proofs.World.{World}
 use Rattle.law.proofs.Rows.{Same, J, refusing, via, step, quiet, kept, unmoved, alarms-row, clear-row, param-row, connect-row, mem-row, item-row}
 
@@ -91,12 +92,12 @@ module _ (h : Sheet) (sheet : List ℕ) (st : LinkState) (m c : List ℕ) (facts
   quiet-here = quiet h sheet st m c facts on world asked
 
   -- a known code: its row
-  known : (k : ℕ) (d : Judgement) (r : Row) → isKnown k ≡ true → isAllowed (st .link) k ≡ oneOf (link s) (r .links) → dataOf sheet (layoutFor h) st (rows.cmd h sheet st m c facts on world asked k) ≡ d
+  known : (k : ℕ) (d : Judgement) (r : Row) → isKnown k ≡ true → isAllowed (st .link) k ≡ oneOf (link s) (r .links) → dataOf sheet (layoutFor h) st (named k c) ≡ d
       → judged s k (table h s m c) ≡ checked s (check (oneOf (link s) (r .links)) 12 0 ∷ r .checks) r
-      → (oneOf (link s) (r .links) ≡ true → Is d (checked s (r .checks) r)) → Is (judgeOf sheet (layoutFor h) st (rows.cmd h sheet st m c facts on world asked k)) (judged s k (table h s m c))
+      → (oneOf (link s) (r .links) ≡ true → Is d (checked s (r .checks) r)) → Is (judgeOf sheet (layoutFor h) st (named k c)) (judged s k (table h s m c))
   unfolding judgeOf checked
   known k d r e₁ e₂ e₃ e₄ g =
-      subst (λ (f : Fate). Is (judgeOf sheet (layoutFor h) st (rows.cmd h sheet st m c facts on world asked k)) f) (sym e₄)
+      subst (λ (f : Fate). Is (judgeOf sheet (layoutFor h) st (named k c)) f) (sym e₄)
       (via-here (pick-no _ _ (ap not e₁))
       (step-here _ _ 12 (ap not e₂) (λ a. via-here e₃ (g a))))
 
@@ -118,7 +119,7 @@ module _ (h : Sheet) (sheet : List ℕ) (st : LinkState) (m c : List ℕ) (facts
   unfolding octetsOf
   allows k ns a b d = in-links (λ n. isAllowed n k ≡ oneOf n ns) a b d (st .link) (facts .link) on
 
-  unknown-code : (n : ℕ) → (n ≡ 0x00 → ⊥) → (n ≡ 0x01 → ⊥) → (n ≡ 0x02 → ⊥) → (n ≡ 0x03 → ⊥) → (n ≡ 0x05 → ⊥) → (n ≡ 0x06 → ⊥) → (n ≡ 0x0D → ⊥) → (n ≡ 0x0E → ⊥) → (n ≡ 0x0F → ⊥) → (n ≡ 0x1D → ⊥) → (n ≡ 0x1E → ⊥) → Is (judgeOf sheet (layoutFor h) st (rows.cmd h sheet st m c facts on world asked n)) (judged s n (table h s m c))
+  unknown-code : (n : ℕ) → (n ≡ 0x00 → ⊥) → (n ≡ 0x01 → ⊥) → (n ≡ 0x02 → ⊥) → (n ≡ 0x03 → ⊥) → (n ≡ 0x05 → ⊥) → (n ≡ 0x06 → ⊥) → (n ≡ 0x0D → ⊥) → (n ≡ 0x0E → ⊥) → (n ≡ 0x0F → ⊥) → (n ≡ 0x1D → ⊥) → (n ≡ 0x1E → ⊥) → Is (judgeOf sheet (layoutFor h) st (named n c)) (judged s n (table h s m c))
   unfolding judgeOf judged
   unknown-code n z0 z1 z2 z3 z4 z5 z6 z7 z8 z9 z10 =
       via-here (pick-yes _ _ (ap not (not-known n z0 z1 z2 z3 z4 z5 z6 z7 z8 z9 z10)))
@@ -126,10 +127,10 @@ module _ (h : Sheet) (sheet : List ℕ) (st : LinkState) (m c : List ℕ) (facts
       when-no _ _ (ne-eqb n 0x00 z0) ∙ when-no _ _ (ne-eqb n 0x01 z1) ∙ when-no _ _ (ne-eqb n 0x02 z2) ∙ when-no _ _ (ne-eqb n 0x03 z3) ∙ when-no _ _ (ne-eqb n 0x05 z4) ∙ when-no _ _ (ne-eqb n 0x06 z5) ∙ when-no _ _ (ne-eqb n 0x0D z6) ∙ when-no _ _ (ne-eqb n 0x0E z7) ∙ when-no _ _ (ne-eqb n 0x0F z8) ∙ when-no _ _ (ne-eqb n 0x1D z9) ∙ when-no _ _ (ne-eqb n 0x1E z10)))
       (refusing h sheet st m c facts on world asked 8))
 
-  judge-same : (n : ℕ) → Is (judgeOf sheet (layoutFor h) st (rows.cmd h sheet st m c facts on world asked n)) (judged s n (table h s m c))
+  judge-same : (n : ℕ) → Is (judgeOf sheet (layoutFor h) st (named n c)) (judged s n (table h s m c))
   unfolding isKnown isAllowed dataOf judged pick when checked
   judge-same =
-      by-code (λ n. Is (judgeOf sheet (layoutFor h) st (rows.cmd h sheet st m c facts on world asked n)) (judged s n (table h s m c)))
+      by-code (λ n. Is (judgeOf sheet (layoutFor h) st (named n c)) (judged s n (table h s m c)))
       (known 0x00 _ (nth (table h s m c) 0) refl (allows 0x00 (1 ∷ 2 ∷ 3 ∷ []) refl refl refl) refl refl (λ a. quiet-here st [] (kept h sheet st m c facts on world asked)))
       (known 0x01 _ (nth (table h s m c) 1) refl (allows 0x01 (2 ∷ 3 ∷ []) refl refl refl) refl refl (λ a. param-row h sheet st m c facts on world asked 0x01 false readable read-is 0 [] []))
       (known 0x02 _ (nth (table h s m c) 2) refl (allows 0x02 (2 ∷ 3 ∷ []) refl refl refl) refl refl (λ a. param-row h sheet st m c facts on world asked 0x02 true (writable (link s)) write-is 0 [] []))
@@ -145,10 +146,10 @@ module _ (h : Sheet) (sheet : List ℕ) (st : LinkState) (m c : List ℕ) (facts
 
   -- check 1
   lost-or : (b : Bool) {y : Judgement} {f : Fate} → (b ≡ true → eqb (link s) 3 ≡ true) → Is y f
-      → Same h sheet st m c (pick b (comesTo 0 Quiet (lost st)) (finished st (commandOf c) y)) (when b (fate 0 (piece 1 (2 ∷ []) ∷ piece 9 (12 ∷ []) ∷ []) [] []) f)
-  unfolding pick when bodyOf memoryAfter
+      → Same h sheet st m c (pick b (comesTo 0 Quiet (lost st)) (finished st (named (getD c 0 0) c) y)) (when b (fate 0 (piece 1 (2 ∷ []) ∷ piece 9 (12 ∷ []) ∷ []) [] []) f)
+  unfolding pick when laid
   lost-or true g k =
-      record { alarm = refl; next = goes-lost (getD c 1 0 % 16) st facts on (g refl); body = λ d e. sym (over-none 0 d); memory = unmoved h sheet st m c facts on world asked }
+      record { alarm = refl; next = goes-lost (getD c 1 0 % 16) st facts on (g refl); body = λ k old. refl; memory = quiet-keeps c m ∙ unmoved h sheet st m c facts on world asked }
   lost-or false g k = k .same
 
   -- "Link 3 with MN known": MN known is 0 or 1
@@ -157,9 +158,13 @@ module _ (h : Sheet) (sheet : List ℕ) (st : LinkState) (m c : List ℕ) (facts
   follows (suc zero) l b = refl
   follows (suc (suc n)) l b = absurd (let w : ⊥ = omega arith in w)
 
-  pub outcome-same : Same h sheet st m c (outcomeOf sheet (layoutFor h) st (commandOf c)) (fateOf h s m c)
-  unfolding outcomeOf fateOf followsOf commandOf octetsOf
-  outcome-same =
-      subst (λ (b : Bool). Same h sheet st m c (pick (eqb (st .link) 3 && b) (comesTo 0 Quiet (lost st)) (finished st (commandOf c) (judgeOf sheet (layoutFor h) st (commandOf c)))) (fateOf h s m c))
+  named-same : Same h sheet st m c (outcomeOf sheet (layoutFor h) st (named (getD c 0 0) c)) (fateOf h s m c)
+  unfolding outcomeOf fateOf followsOf octetsOf
+  named-same =
+      let n = named (getD c 0 0) c in
+      subst (λ (b : Bool). Same h sheet st m c (pick (eqb (st .link) 3 && b) (comesTo 0 Quiet (lost st)) (finished st n (judgeOf sheet (layoutFor h) st n))) (fateOf h s m c))
       (sym (follows (st .watch .known) (facts .known) (eqb (getD c 1 0 % 16) ((st .watch .last + 1) % 16))))
       (lost-or _ (λ e. and-first _ _ e) (judge-same (getD c 0 0)))
+
+  pub outcome-same : Same h sheet st m c (outcomeOf sheet (layoutFor h) st (commandOf c)) (fateOf h s m c)
+  outcome-same = subst (λ (x : Command). Same h sheet st m c (outcomeOf sheet (layoutFor h) st x) (fateOf h s m c)) (sym (command-named c)) named-same

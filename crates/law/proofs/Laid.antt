@@ -10,10 +10,12 @@ use lib.Dec.{leb, ltb}
 use lib.ListN.{length, getD}
 use lib.Seq.{ext-getD}
 use Rattle.octets.specs.Parts.{putAt}
+use Rattle.octets.specs.Pick.{pick}
 use Rattle.octets.proofs.Cases.{lt-or-le}
 use Rattle.law.specs.Words.{Every, when, Piece, laid, overFrom, over}
 use Rattle.law.specs.Memory.{Cell, stored}
 use Rattle.octets.proofs.Overlaid.{put-length, put-before, put-inside, put-behind}
+use Rattle.frame.proofs.Bodies.{laidAt}
 
 pub when-yes {ℓ} : {A : Type ℓ} {b : Bool} (x y : A) → b ≡ true → when b x y ≡ x
 unfolding when
@@ -108,3 +110,20 @@ pub laid-before : (ps : List Piece) (k old : ℕ) → Every (λ (p : Piece). k <
 unfolding laid
 laid-before [] k old all = refl
 laid-before (p ∷ ps) k old all = ap (laid ps k) (lies-below p k old (all .0)) ∙ laid-before ps k old (all .1)
+
+-- pieces and the frame's octets
+pub picked : (b : Bool) (x y : ℕ) → pick b x y ≡ when b x y
+unfolding pick when
+picked true x y = refl
+picked false x y = refl
+
+lies-so : (p : Piece) (k old : ℕ) → laidAt (p .first) (p .octets) k old ≡ lies p k old
+lies-so p k old = picked (leb (p .first) k && ltb k (p .first + length (p .octets))) (getD (p .octets) (k - p .first) 0) old
+
+pub laid-one : (p : Piece) (k old : ℕ) → laidAt (p .first) (p .octets) k old ≡ laid (p ∷ []) k old
+unfolding laid
+laid-one p k old = lies-so p k old
+
+pub laid-two : (p q : Piece) (k old : ℕ) → laidAt (q .first) (q .octets) k (laidAt (p .first) (p .octets) k old) ≡ laid (p ∷ q ∷ []) k old
+unfolding laid
+laid-two p q k old = ap (laidAt (q .first) (q .octets) k) (lies-so p k old) ∙ lies-so q k (lies p k old)

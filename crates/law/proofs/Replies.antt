@@ -3,18 +3,19 @@ use mathlib.Core.Bool.{Bool, true, false, _&&_, _||_}
 use mathlib.Core.Logic.{⊎-elim}
 use mathlib.Core.Path.{_≡_, refl, sym, ap, ap₂, _∙_}
 use mathlib.Core.List.{List, [], _∷_}
-use Prim.Native.Nat.{ℕ, _+_, _*_, _/_, _%_, _≤_, _<_}
+use Prim.Native.Nat.{ℕ, zero, suc, _+_, _-_, _*_, _%_, _≤_, _<_}
 use native.Mathlib.Omega.{arith}
 use borrow.Author.Tests.{ltb-true, eqb-true, ne-eqb}
 use lib.Dec.{eqb, ltb}
-use lib.ListN.{length, getD, replicate, length-replicate}
-use Rattle.octets.specs.Parts.{putAt}
+use lib.ListN.{length, getD, replicate, length-replicate, getD-replicate}
+use lib.Seq.{ext-getD}
 use Rattle.octets.specs.Pick.{pick}
-use Rattle.octets.proofs.Cases.{eq-or-ne}
-use Rattle.frame.specs.Body.{bodyOf, replyOf}
-use Rattle.frame.specs.Fields.{commandOf}
-use Rattle.frame.specs.Head.{rwdtOf, statusOf, headOf}
-use Rattle.law.specs.Words.{when, piece}
+use Rattle.octets.proofs.Cases.{eq-or-ne, lt-or-le}
+use Rattle.frame.specs.Body.{replyOf, Fitting}
+use Rattle.frame.proofs.Bodies.{body-behind}
+use Rattle.frame.proofs.Named.{command-named}
+use Rattle.frame.proofs.Replies.{whole, code-again, rwdt-told, latched-told, alarm-told, body-at}
+use Rattle.law.specs.Words.{when, piece, laid, over}
 use Rattle.law.specs.Sheet.{Sheet}
 use Rattle.law.specs.State.{link}
 use Rattle.law.specs.Table.{Asked, Row, table}
@@ -23,9 +24,9 @@ use Rattle.link.specs.Stored.{octetsOf}
 use Rattle.link.specs.Valid.{isCommunicationAlarm}
 use Rattle.link.specs.declared.state.LinkState.{LinkState}
 use Rattle.link.proofs.Facts.{Facts}
+use Rattle.machine.specs.declared.words.Command.{Command}
 use Rattle.machine.specs.declared.words.Outcome.{Outcome}
-use Rattle.octets.proofs.Overlaid.{put-length}
-use Rattle.law.proofs.Laid.{over-put}
+use Rattle.law.proofs.Laid.{lies, lies-here, lies-past, over-length, over-at, picked}
 use Rattle.law.proofs.Rows.{Same}
 
 -- every alarm fits into a half octet
@@ -71,22 +72,6 @@ pub fate-small : (h : Sheet) (s m c : List ℕ) → Small (fateOf h s m c)
 unfolding fateOf
 fate-small h s m c = when-both Small _ (let z : 0 < 16 = omega arith in z) (judged-small s (getD c 0 0) (table h s m c) refl)
 
--- the four octets of the head
-same-rwdt : (b : Bool) (rsn mn : ℕ) → rsn ≤ 15 → pick b (16 * (rsn % 16) + mn) 0 ≡ when b (16 * rsn + mn) 0
-unfolding pick when
-same-rwdt true rsn mn l = omega arith
-same-rwdt false rsn mn l = refl
-
-same-low : (b : Bool) (alarm co : ℕ) → (pick b 0 1 + 4 + 256 * (alarm % 16) + 4096 * (co % 16)) % 256 ≡ 4 + when b 0 1
-unfolding pick when
-same-low true alarm co = omega arith
-same-low false alarm co = omega arith
-
-same-high : (b : Bool) (alarm co : ℕ) → alarm < 16 → co < 16 → (pick b 0 1 + 4 + 256 * (alarm % 16) + 4096 * (co % 16)) / 256 ≡ alarm + 16 * co
-unfolding pick when
-same-high true alarm co l k = omega arith
-same-high false alarm co l k = omega arith
-
 small-latch : (co : ℕ) → isCommunicationAlarm co ≡ true → co < 16
 unfolding isCommunicationAlarm
 small-latch co e =
@@ -96,37 +81,65 @@ small-latch co e =
     let k = eqb-true co 12 q in let w : co < 16 = omega arith in w)
     (eq-or-ne co 0)
 
-same-head : (code wdt alarm l : ℕ) (next : LinkState) → alarm < 16 → Facts l next
-    → headOf code wdt alarm next ≡ code
-    ∷ when (eqb (link (octetsOf next)) 3) (16 * getD (octetsOf next) 7 0 + wdt % 16) 0
-    ∷ (4 + when (eqb (getD (octetsOf next) 8 0) 0 && eqb (getD (octetsOf next) 9 0) 0) 0 1)
-    ∷ (alarm + 16 * getD (octetsOf next) 9 0)
-    ∷ []
-unfolding headOf rwdtOf statusOf octetsOf
-same-head code wdt alarm l next a f =
-    let x = same-rwdt (eqb (next .link) 3) (next .watch .rsn) (wdt % 16) (f .rsn) in
-    let b = eqb (next .latches .command) 0 && eqb (next .latches .communication) 0 in
-    let y = same-low b alarm (next .latches .communication) in
-    let z = same-high b alarm (next .latches .communication) a (small-latch (next .latches .communication) (f .communication)) in
-    λ i. code ∷ x i ∷ y i ∷ z i ∷ []
+-- the reply, octet by octet: the head's four by the frame's laws, and behind them the row's pieces
+module _ (h : Sheet) (sheet : List ℕ) (st : LinkState) (m c : List ℕ) (o : Outcome) (f : Fate) (same : Same h sheet st m c o f) (small : f .alarm < 16)
+    (v : Facts (h .l) (o .next)) (asked : length c ≡ h .l) (long : 8 ≤ h .l) (fits : Fitting (o .effect) (length c) (length m) (length sheet)) where
+  abbrev t : List ℕ
+  t = stateAfter (octetsOf st) (getD c 1 0 % 16) (f .state)
 
-pub reply-same : (h : Sheet) (sheet : List ℕ) (st : LinkState) (m c : List ℕ) (o : Outcome) (f : Fate) → Same h sheet st m c o f → f .alarm < 16
-    → Facts (h .l) (o .next) → length c ≡ h .l → 8 ≤ h .l
-    → replyOf sheet m c o ≡ replyFor h c (f .alarm) (stateAfter (octetsOf st) (getD c 1 0 % 16) (f .state)) (f .body)
-unfolding replyOf replyFor commandOf
-reply-same h sheet st m c o f same small v asked long =
-    let t = stateAfter (octetsOf st) (getD c 1 0 % 16) (f .state) in
-    let H : List ℕ → ℕ → List ℕ = λ t alarm. getD c 0 0
-    ∷ when (eqb (link t) 3) (16 * getD t 7 0 + getD c 1 0 % 16) 0
-    ∷ (4 + when (eqb (getD t 8 0) 0 && eqb (getD t 9 0) 0) 0 1)
-    ∷ (alarm + 16 * getD t 9 0)
-    ∷ [] in
-    let head : headOf (getD c 0 0) (getD c 1 0) (o .alarm) (o .next) ≡ H t (f .alarm) =
-    ap (λ (a : ℕ). headOf (getD c 0 0) (getD c 1 0) a (o .next)) (same .alarm) ∙ same-head (getD c 0 0) (getD c 1 0) (f .alarm) (h .l) (o .next) small v
-    ∙ ap (λ (t : List ℕ). H t (f .alarm)) (same .next) in
-    let z = length-replicate {A = ℕ} (h .l) 0 in
-    let fits : 0 + 4 ≤ length {A = ℕ} (replicate (h .l) 0) = omega arith in
-    let d = putAt (replicate (h .l) 0) 0 (H t (f .alarm)) in
-    ap₂ (λ (n : ℕ) (l : List ℕ). bodyOf (o .effect) sheet m c (putAt (replicate n 0) 0 l)) asked head
-    ∙ same .body d (put-length (replicate (h .l) 0) 0 (H t (f .alarm)) fits ∙ z)
-    ∙ sym (over-put (piece 0 (H t (f .alarm))) (f .body) (replicate (h .l) 0) fits)
+  -- the head by a state record and an alarm
+  abbrev head : List ℕ → ℕ → List ℕ
+  head t alarm =
+      getD c 0 0
+      ∷ when (eqb (link t) 3) (16 * getD t 7 0 + getD c 1 0 % 16) 0
+      ∷ (4 + when (eqb (getD t 8 0) 0 && eqb (getD t 9 0) 0) 0 1)
+      ∷ (alarm + 16 * getD t 9 0)
+      ∷ []
+
+  abbrev reply : List ℕ
+  reply = replyOf sheet m c o
+
+  long-enough : 8 ≤ length c
+  long-enough = omega arith
+
+  in-head : (k : ℕ) → k < 4 → getD reply k 0 ≡ getD (head (octetsOf (o .next)) (o .alarm)) k 0
+  unfolding octetsOf
+  in-head zero l = code-again sheet m c o long-enough fits ∙ ap (λ (x : Command). x .code) (command-named c)
+  in-head (suc zero) l =
+      let rsn = v .rsn in
+      rwdt-told sheet m c o long-enough fits (omega arith)
+      ∙ ap (λ (x : Command). pick (eqb (o .next .link) 3) (16 * o .next .watch .rsn + x .wdt % 16) 0) (command-named c)
+      ∙ picked (eqb (o .next .link) 3) (16 * o .next .watch .rsn + getD c 1 0 % 16) 0
+  in-head (suc (suc zero)) l =
+      latched-told sheet m c o long-enough fits
+      ∙ ap (λ (x : ℕ). 4 + x) (picked (eqb (o .next .latches .command) 0 && eqb (o .next .latches .communication) 0) 0 1)
+  in-head (suc (suc (suc zero))) l =
+      let alarm = same .alarm in
+      alarm-told sheet m c o long-enough fits (omega arith) (small-latch (o .next .latches .communication) (v .communication))
+  in-head (suc (suc (suc (suc k)))) l = absurd (let w : ⊥ = omega arith in w)
+
+  head-is : head (octetsOf (o .next)) (o .alarm) ≡ head t (f .alarm)
+  head-is = ap₂ head (same .next) (same .alarm)
+
+  octet-same : (k : ℕ) → k < length c → getD reply k 0 ≡ laid (f .body) k (lies (piece 0 (head t (f .alarm))) k 0)
+  octet-same k u =
+      ⊎-elim (λ (a : k < 4).
+      let x = getD (head t (f .alarm)) k 0 in
+      in-head k a ∙ ap (λ (l : List ℕ). getD l k 0) head-is ∙ sym (body-behind (o .effect) sheet m c k x a) ∙ same .body k x
+      ∙ ap (laid (f .body) k) (ap (λ (n : ℕ). getD (head t (f .alarm)) n 0) (let e : k ≡ k - 0 = omega arith in e)
+      ∙ sym (lies-here (piece 0 (head t (f .alarm))) k 0 (omega arith) (omega arith))))
+      (λ (a : 4 ≤ k).
+      body-at sheet m c o long-enough fits k a u ∙ same .body k 0 ∙ ap (laid (f .body) k) (sym (lies-past (piece 0 (head t (f .alarm))) k 0 (omega arith))))
+      (lt-or-le k 4)
+
+  pub reply-same : reply ≡ replyFor h c (f .alarm) t (f .body)
+  unfolding replyFor laid
+  reply-same =
+      let ps = piece 0 (head t (f .alarm)) ∷ f .body in
+      let zeros = length-replicate {A = ℕ} (h .l) 0 in
+      let full = whole sheet m c o long-enough fits in
+      let lies-over = over-length 0 ps (replicate (h .l) 0) in
+      ext-getD 0 reply (over ps (replicate (h .l) 0)) (full ∙ asked ∙ sym zeros ∙ sym lies-over) (λ k u.
+      octet-same k (omega arith)
+      ∙ ap (λ (x : ℕ). laid ps k x) (sym (getD-replicate (h .l) k 0 0 (omega arith)))
+      ∙ sym (over-at 0 ps (replicate (h .l) 0) k (omega arith) ∙ ap (λ (n : ℕ). laid ps n (getD (replicate (h .l) 0) k 0)) (let e : 0 + k ≡ k = omega arith in e)))

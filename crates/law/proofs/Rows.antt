@@ -10,10 +10,12 @@ use lib.ListN.{length, getD, take, drop, length-take, length-drop}
 use Rattle.octets.specs.Numbers.{le2At, le4At}
 use Rattle.octets.specs.Parts.{part, putAt}
 use Rattle.octets.specs.Pick.{pick}
-use Rattle.frame.specs.Body.{bodyOf, memoryAfter, dataFrom}
-use Rattle.frame.specs.Fields.{commandOf}
+use Rattle.frame.specs.Body.{dataFrom, memoryAfter}
+use Rattle.frame.proofs.Bodies.{laidAt, carriedAt, bodyAt}
+use Rattle.frame.proofs.Kept.{quiet-keeps, reads-keep, writes-store, identifies-keep, alarms-keep, connects-keep}
+use Rattle.frame.proofs.Named.{named}
 use Rattle.law.proofs.Layouts.{layoutFor}
-use Rattle.law.specs.Words.{when, number, oneOf, Piece, piece, over, bit}
+use Rattle.law.specs.Words.{when, number, oneOf, Piece, piece, laid, bit}
 use Rattle.law.specs.Sheet.{Item as Ident, Sheet}
 use Rattle.law.specs.State.{link}
 use Rattle.law.specs.Memory.{cells, stored, held, hasAll, mapped}
@@ -43,7 +45,7 @@ use Rattle.machine.specs.declared.words.Judgement.{Judgement}
 use Rattle.machine.specs.declared.words.Judgement.the-variants.{Refused, Accepted}
 use Rattle.machine.specs.declared.words.Outcome.{Outcome}
 use Rattle.octets.proofs.Overlaid.{put-length}
-use Rattle.law.proofs.Laid.{over-put, over-none, stored-none}
+use Rattle.law.proofs.Laid.{stored-none, laid-one, laid-two}
 use Rattle.law.proofs.Goes.{connect-goes, Goes, goes-kept, goes-latched, goes-cleared}
 use Rattle.law.proofs.Layouts.{asParameter, asRegion}
 use Rattle.law.proofs.Fields.{less-not, none-not, two-octets, com-mod, com-mods, com-time, param-found, param-missing, four-octets, elements}
@@ -54,7 +56,7 @@ module _ (h : Sheet) (sheet : List ℕ) (st : LinkState) (m c : List ℕ) where
   pub record Same (o : Outcome) (f : Fate) : Type 0 where
     pub alarm : o .alarm ≡ f .alarm
     pub next : Goes st (o .next) (getD c 1 0 % 16) (f .state)
-    pub body : (d : List ℕ) → length d ≡ h .l → bodyOf (o .effect) sheet m c d ≡ over (f .body) d
+    pub body : (k old : ℕ) → bodyAt (o .effect) sheet m c k old ≡ laid (f .body) k old
     pub memory : memoryAfter (o .effect) c m ≡ stored (f .memory) (cells (h .regions)) m
 
   module _ (facts : Facts (h .l) st) (on : st .link ≡ 0 → ⊥) (world : World h sheet m) (asked : length c ≡ h .l) where
@@ -62,19 +64,19 @@ module _ (h : Sheet) (sheet : List ℕ) (st : LinkState) (m c : List ℕ) where
     whole = world .whole
 
     pub record J (j : Judgement) (f : Fate) : Type 0 where
-      pub same : Same (finished st (commandOf c) j) f
+      pub same : Same (finished st (named (getD c 0 0) c) j) f
 
     abbrev s : List ℕ
     s = octetsOf st
 
     pub refusing : (a : ℕ) → J (Refused a) (refused s a)
-    unfolding finished refused bodyOf memoryAfter commandOf
+    unfolding finished refused laid
     refusing a = record {
       same = record {
         alarm = refl;
         next = goes-latched (getD c 1 0 % 16) st facts on a;
-        body = λ d e. sym (over-none 0 d);
-        memory = sym (stored-none (cells (h .regions)) m whole);
+        body = λ k old. refl;
+        memory = quiet-keeps c m ∙ sym (stored-none (cells (h .regions)) m whole);
       };
     }
 
@@ -90,27 +92,16 @@ module _ (h : Sheet) (sheet : List ℕ) (st : LinkState) (m c : List ℕ) where
 
     -- a row without octets
     pub quiet : (next : LinkState) (ps : List Piece) → Goes st (counting st next (getD c 1 0 % 16)) (getD c 1 0 % 16) ps → J (Accepted Quiet next) (fate 0 ps [] [])
-    unfolding finished bodyOf memoryAfter commandOf
+    unfolding finished laid
     quiet next ps g =
-        record { same = record { alarm = refl; next = g; body = λ d e. sym (over-none 0 d); memory = sym (stored-none (cells (h .regions)) m whole) } }
+        record { same = record { alarm = refl; next = g; body = λ k old. refl; memory = quiet-keeps c m ∙ sym (stored-none (cells (h .regions)) m whole) } }
 
     -- a row with octets
     pub doing : (e : Effect) (next : LinkState) {ps body memory : List Piece} → Goes st (counting st next (getD c 1 0 % 16)) (getD c 1 0 % 16) ps
-        → ((d : List ℕ) → length d ≡ h .l → bodyOf e sheet m c d ≡ over body d) → memoryAfter e c m ≡ stored memory (cells (h .regions)) m
+        → ((k old : ℕ) → bodyAt e sheet m c k old ≡ laid body k old) → memoryAfter e c m ≡ stored memory (cells (h .regions)) m
         → J (Accepted e next) (fate 0 ps body memory)
-    unfolding finished commandOf
+    unfolding finished
     doing e next g b n = record { same = record { alarm = refl; next = g; body = b; memory = n } }
-
-    -- pieces laid by the machine
-    over-one : (p : Piece) (d : List ℕ) → length d ≡ h .l → p .first + length (p .octets) ≤ h .l → putAt d (p .first) (p .octets) ≡ over (p ∷ []) d
-    over-one p d e l = sym (over-put p [] d (omega arith) ∙ over-none 0 _)
-
-    over-two : (p q : Piece) (d : List ℕ) → length d ≡ h .l → p .first + length (p .octets) ≤ h .l → q .first + length (q .octets) ≤ h .l
-        → putAt (putAt d (p .first) (p .octets)) (q .first) (q .octets) ≡ over (p ∷ q ∷ []) d
-    over-two p q d e l k =
-        let f : p .first + length (p .octets) ≤ length d = omega arith in
-        let z = put-length d (p .first) (p .octets) f in
-        sym (over-put p (q ∷ []) d f ∙ over-put q [] (putAt d (p .first) (p .octets)) (omega arith) ∙ over-none 0 _)
 
     pub unmoved : m ≡ stored [] (cells (h .regions)) m
     unmoved = sym (stored-none (cells (h .regions)) m whole)
@@ -118,39 +109,34 @@ module _ (h : Sheet) (sheet : List ℕ) (st : LinkState) (m c : List ℕ) where
     pub kept : Goes st (counting st st (getD c 1 0 % 16)) (getD c 1 0 % 16) []
     kept = goes-kept (getD c 1 0 % 16) st facts on
 
-    alarms-body : 16 ≤ h .l → (d : List ℕ) → length d ≡ h .l
-        → bodyOf (Alarms (st .latches .command) (st .latches .communication)) sheet m c d ≡ over (piece 8 (getD s 8 0 ∷ getD s 9 0 ∷ []) ∷ []) d
-    unfolding bodyOf octetsOf
-    alarms-body l d e = over-one (piece 8 (st .latches .command ∷ st .latches .communication ∷ [])) d e (omega arith)
+    alarms-body : (k old : ℕ)
+        → bodyAt (Alarms (st .latches .command) (st .latches .communication)) sheet m c k old ≡ laid (piece 8 (getD s 8 0 ∷ getD s 9 0 ∷ []) ∷ []) k old
+    unfolding octetsOf
+    alarms-body k old = laid-one (piece 8 (st .latches .command ∷ st .latches .communication ∷ [])) k old
 
-    connects-body : (d : List ℕ) → length d ≡ h .l → bodyOf Connects sheet m c d ≡ over (again c 4 7 ∷ []) d
-    unfolding bodyOf part
-    connects-body d e = over-one (again c 4 7) d e (let z = length-take 4 (drop 4 c) in let w = world .long in omega arith)
+    connects-body : (k old : ℕ) → bodyAt Connects sheet m c k old ≡ laid (again c 4 7 ∷ []) k old
+    unfolding part
+    connects-body k old = laid-one (again c 4 7) k old
 
     -- a span of memory
-    moved-body : (writes : Bool) (by : Carrier) (a n : ℕ) → dataFrom by + n ≤ h .l → hasAll mapped (cells (h .regions)) a n ≡ true → (d : List ℕ) → length d ≡ h .l
-        → bodyOf (moved writes by (spanPlace (map asRegion (h .regions)) a) n) sheet m c d ≡ over (echo c by ∷ dataPiece writes by (cells (h .regions)) m c a n ∷ []) d
-    unfolding moved bodyOf part
-    moved-body false Parameter a n l q d e =
-        ap (putAt (putAt d 4 (take 3 (drop 4 c))) 8) (world .reads a n q)
-        ∙ over-two (again c 4 6) (piece 8 (held (cells (h .regions)) m a n)) d e (let z = length-take 3 (drop 4 c) in let w = world .long in omega arith)
-        (let z = held-length (cells (h .regions)) m a n in omega arith)
-    moved-body false Memory a n l q d e =
-        ap (putAt (putAt d 5 (take 7 (drop 5 c))) 12) (world .reads a n q)
-        ∙ over-two (again c 5 11) (piece 12 (held (cells (h .regions)) m a n)) d e (let z = length-take 7 (drop 5 c) in omega arith)
-        (let z = held-length (cells (h .regions)) m a n in omega arith)
-    moved-body true Parameter a n l q d e =
-        over-two (again c 4 6) (piece 8 (take n (drop 8 c))) d e (let z = length-take 3 (drop 4 c) in let w = world .long in omega arith)
-        (let z = length-take n (drop 8 c) in omega arith)
-    moved-body true Memory a n l q d e =
-        over-two (again c 5 11) (piece 12 (take n (drop 12 c))) d e (let z = length-take 7 (drop 5 c) in omega arith)
-        (let z = length-take n (drop 12 c) in omega arith)
+    carried-body : (by : Carrier) (octets : List ℕ) (k old : ℕ) → carriedAt by octets c k old ≡ laid (echo c by ∷ piece (dataFrom by) octets ∷ []) k old
+    unfolding part
+    carried-body Parameter octets k old = laid-two (again c 4 6) (piece 8 octets) k old
+    carried-body Memory octets k old = laid-two (again c 5 11) (piece 12 octets) k old
+
+    moved-body : (writes : Bool) (by : Carrier) (a n : ℕ) → hasAll mapped (cells (h .regions)) a n ≡ true → (k old : ℕ)
+        → bodyAt (moved writes by (spanPlace (map asRegion (h .regions)) a) n) sheet m c k old ≡ laid (echo c by ∷ dataPiece writes by (cells (h .regions)) m c a n ∷ []) k old
+    unfolding moved part
+    moved-body false by a n q k old = ap (λ (x : List ℕ). carriedAt by x c k old) (world .reads a n q) ∙ carried-body by (held (cells (h .regions)) m a n) k old
+    moved-body true by a n q k old = carried-body by (take n (drop (dataFrom by) c)) k old
 
     moved-memory : (writes : Bool) (by : Carrier) (a n : ℕ) → dataFrom by + n ≤ h .l → hasAll mapped (cells (h .regions)) a n ≡ true
         → memoryAfter (moved writes by (spanPlace (map asRegion (h .regions)) a) n) c m ≡ stored (written writes by c a n) (cells (h .regions)) m
-    unfolding moved memoryAfter part
-    moved-memory false by a n l q = unmoved
-    moved-memory true by a n l q = world .writes a n (take n (drop (dataFrom by) c)) q (simp (length-take, length-drop) (omega arith))
+    unfolding moved part
+    moved-memory false by a n l q = reads-keep c m by (spanPlace (map asRegion (h .regions)) a) n ∙ unmoved
+    moved-memory true by a n l q =
+        writes-store c m by (spanPlace (map asRegion (h .regions)) a) n
+        ∙ world .writes a n (take n (drop (dataFrom by) c)) q (simp (length-take, length-drop) (omega arith))
 
     span-row : (writes : Bool) (by : Carrier) (right : ℕ → Bool) (a n o : ℕ) → ((x : ℕ) → right x ≡ givesOf x (rightOf writes (st .link))) → dataFrom by + n ≤ h .l
         → (x : ℕ) (ns : List ℕ) (ks : List Asked)
@@ -161,51 +147,34 @@ module _ (h : Sheet) (sheet : List ℕ) (st : LinkState) (m c : List ℕ) where
     span-row writes by right a n o same l x ns ks =
         step _ _ 9 (ap not (sym (all-span mapped Mapped mapped-is (h .regions) a n))) (λ q.
         step _ _ 10 (ap not (sym (all-span right (rightOf writes (st .link)) same (h .regions) a n))) (λ w.
-        doing (moved writes by (spanPlace (map asRegion (h .regions)) a) n) st kept (moved-body writes by a n l q) (moved-memory writes by a n l q)))
+        doing (moved writes by (spanPlace (map asRegion (h .regions)) a) n) st kept (moved-body writes by a n q) (moved-memory writes by a n l q)))
 
     found-or : (b : Bool) (a : ℕ) {y : Judgement} {f : Fate} → (b ≡ true → J y f) → (b ≡ false → J y (refused s a)) → J y (when b f (refused s a))
     unfolding when
     found-or true a g k = g refl
     found-or false a g k = k refl
 
-    module _ (k : ℕ) where
-      -- the command with another code: only the code decides the row
-      abbrev pub cmd : Command
-      cmd = record {
-        code = k;
-        wdt = getD c 1 0;
-        number = le2At c 4;
-        size = getD c 6 0;
-        item = getD c 4 0;
-        offset = getD c 5 0;
-        count = le2At c 6;
-        mode = getD c 5 0;
-        address = le4At c 8;
-        version = getD c 4 0;
-        «com_mod» = getD c 5 0;
-        «com_time» = getD c 6 0;
-        profile = getD c 7 0;
-      }
-
+    -- a command of any code: only the code decides the row
+    module _ (code : ℕ) where
       -- 05 ALM_RD
       pub alarms-row : (n : ℕ) (ns : List ℕ) (ks : List Asked)
-          → J (alarmsOf (layoutFor h) st cmd) (checked s (check (leb 16 (h .l)) 9 0 ∷ check (eqb (number c 4 2) 0) 9 4 ∷ [])
+          → J (alarmsOf (layoutFor h) st (named code c)) (checked s (check (leb 16 (h .l)) 9 0 ∷ check (eqb (number c 4 2) 0) 9 4 ∷ [])
           (row n ns ks [] (piece 8 (getD s 8 0 ∷ getD s 9 0 ∷ []) ∷ []) []))
-      unfolding alarmsOf checked memoryAfter
+      unfolding alarmsOf checked
       alarms-row n ns ks =
           step _ _ 9 (less-not (h .l) 16) (λ l.
           step _ _ 9 (ap (λ (x : ℕ). not (eqb x 0)) (two-octets c 4)) (λ z.
-          doing (Alarms (st .latches .command) (st .latches .communication)) st kept (alarms-body (leb-true 16 (h .l) l)) unmoved))
+          doing (Alarms (st .latches .command) (st .latches .communication)) st kept alarms-body (alarms-keep c m (st .latches .command) (st .latches .communication) ∙ unmoved)))
 
       -- 06 ALM_CLR
       pub clear-row : (n : ℕ) (ns : List ℕ) (ks : List Asked)
-          → J (clearOf st cmd) (checked s (check (eqb (number c 4 2) 0) 9 4 ∷ []) (row n ns ks (piece 8 (0 ∷ []) ∷ piece 9 (0 ∷ []) ∷ []) [] []))
+          → J (clearOf st (named code c)) (checked s (check (eqb (number c 4 2) 0) 9 4 ∷ []) (row n ns ks (piece 8 (0 ∷ []) ∷ piece 9 (0 ∷ []) ∷ []) [] []))
       unfolding clearOf checked
       clear-row n ns ks = step _ _ 9 (ap (λ (x : ℕ). not (eqb x 0)) (two-octets c 4)) (λ z. quiet (cleared st) _ (goes-cleared (getD c 1 0 % 16) st facts on))
 
       -- 01 PRM_RD, 02 PRM_WR
       pub param-row : (writes : Bool) (right : ℕ → Bool) → ((x : ℕ) → right x ≡ givesOf x (rightOf writes (st .link))) → (x : ℕ) (ns : List ℕ) (ks : List Asked)
-          → J (parameterOf writes sheet (layoutFor h) st cmd) (checked s (paramChecks h s m c right)
+          → J (parameterOf writes sheet (layoutFor h) st (named code c)) (checked s (paramChecks h s m c right)
           (row x ns ks [] (again c 4 6 ∷ dataPiece writes Parameter (cells (h .regions)) m c (param h s m c .address) (param h s m c .size) ∷ [])
           (written writes Parameter c (param h s m c .address) (param h s m c .size))))
       unfolding parameterOf parameterData checked
@@ -214,19 +183,19 @@ module _ (h : Sheet) (sheet : List ℕ) (st : LinkState) (m c : List ℕ) where
           let at : soughtParameter (parametersOf sheet (length (h .regions)) (length (h .parameters))) (le2At c 4) ≡ soughtParameter (map asParameter (h .parameters)) n =
           ap₂ soughtParameter (world .parameters) (two-octets c 4) in
           found-or _ 9 (λ b.
-          via (ap (λ (y : SoughtParameter). parameterData writes (regionsOf sheet (length (h .regions))) (layoutFor h) st cmd y) (at ∙ param-found (h .parameters) n b))
+          via (ap (λ (y : SoughtParameter). parameterData writes (regionsOf sheet (length (h .regions))) (layoutFor h) st (named code c) y) (at ∙ param-found (h .parameters) n b))
           (step _ _ 9 refl (λ e.
           step _ _ 9 (less-not (h .l - 8) (getD c 6 0)) (λ l.
           via (ap (λ (rs : List Region). spanOf writes rs Parameter (param h s m c .address) (param h s m c .size) st) (world .regions))
           (span-row writes Parameter right (param h s m c .address) (param h s m c .size) 4 same
           (let q = eqb-true (getD c 6 0) (param h s m c .size) e in let r = leb-true (getD c 6 0) (h .l - 8) l in let w = world .long in omega arith) x ns ks)))))
           (λ b.
-          via (ap (λ (y : SoughtParameter). parameterData writes (regionsOf sheet (length (h .regions))) (layoutFor h) st cmd y) (at ∙ param-missing (h .parameters) n b))
+          via (ap (λ (y : SoughtParameter). parameterData writes (regionsOf sheet (length (h .regions))) (layoutFor h) st (named code c) y) (at ∙ param-missing (h .parameters) n b))
           (refusing 9))
 
       -- 0E CONNECT
       pub connect-row : (n : ℕ) (ns : List ℕ) (ks : List Asked) → oneOf (link s) (1 ∷ []) ≡ true
-          → J (connectOf (layoutFor h) st cmd) (checked s (
+          → J (connectOf (layoutFor h) st (named code c)) (checked s (
           check (eqb (getD c 4 0) (h .version)) 9 4
           ∷ check (comMod (getD c 5 0)) 9 5
           ∷ check (leb 1 (getD c 6 0) && (not (bit (getD c 5 0) 2) || leb 2 (getD c 6 0))) 9 6
@@ -234,18 +203,18 @@ module _ (h : Sheet) (sheet : List ℕ) (st : LinkState) (m c : List ℕ) where
           ∷ []
           ) (row n ns ks
           (piece 1 (when (bit (getD c 5 0) 1) 3 2 ∷ []) ∷ piece 3 (when (bit (getD c 5 0) 2) 1 0 ∷ []) ∷ piece 4 (getD c 6 0 ∷ []) ∷ []) (again c 4 7 ∷ []) []))
-      unfolding connectOf checked memoryAfter
+      unfolding connectOf checked
       connect-row n ns ks ok =
           step _ _ 9 refl (λ a.
           step _ _ 9 (ap not (com-mod (getD c 5 0))) (λ b.
           let three = com-mods (getD c 5 0) b in
           step _ _ 9 (ap not (com-time (getD c 5 0) (getD c 6 0) three)) (λ d.
           step _ _ 9 refl (λ e.
-          doing Connects _ (connect-goes (getD c 1 0 % 16) st facts on (getD c 5 0) (getD c 6 0) three ok) connects-body unmoved))))
+          doing Connects _ (connect-goes (getD c 1 0 % 16) st facts on (getD c 5 0) (getD c 6 0) three ok) connects-body (connects-keep c m ∙ unmoved)))))
 
       -- 1D MEM_RD, 1E MEM_WR
       pub mem-row : (writes : Bool) (right : ℕ → Bool) → ((x : ℕ) → right x ≡ givesOf x (rightOf writes (st .link))) → (x : ℕ) (ns : List ℕ) (ks : List Asked)
-          → J (memoryOf writes sheet (layoutFor h) st cmd) (checked s (memChecks h s m c right)
+          → J (memoryOf writes sheet (layoutFor h) st (named code c)) (checked s (memChecks h s m c right)
           (row x ns ks [] (again c 5 11 ∷ dataPiece writes Memory (cells (h .regions)) m c (number c 8 4) (span h s m c) ∷ [])
           (written writes Memory c (number c 8 4) (span h s m c))))
       unfolding memoryOf checked
@@ -262,23 +231,22 @@ module _ (h : Sheet) (sheet : List ℕ) (st : LinkState) (m c : List ℕ) where
 
       -- 03 ID_RD
       item-body : (at k o : ℕ) → (oneOf (getD c 4 0) (map (λ (i : Ident). i .code) (h .items)) ≡ true) → at ≡ world .items (getD c 4 0) .at
-          → o + k ≤ ident h s m c .length → k ≤ h .l - 8 → (d : List ℕ) → length d ≡ h .l
-          → bodyOf (Identifies (at + o) k) sheet m c d ≡ over (again c 4 7 ∷ piece 8 (take k (drop o (ident h s m c .octets))) ∷ []) d
-      unfolding bodyOf part
-      item-body at k o f e l r d q =
-          ap (putAt (putAt d 4 (take 4 (drop 4 c))) 8) (ap (λ (x : ℕ). part sheet (x + o) k) e ∙ world .items (getD c 4 0) .own f o k l)
-          ∙ over-two (again c 4 7) (piece 8 (take k (drop o (ident h s m c .octets)))) d q (let z = length-take 4 (drop 4 c) in let w = world .long in omega arith)
-          (let z = length-take k (drop o (ident h s m c .octets)) in let w = world .long in omega arith)
+          → o + k ≤ ident h s m c .length → (i old : ℕ)
+          → bodyAt (Identifies (at + o) k) sheet m c i old ≡ laid (again c 4 7 ∷ piece 8 (take k (drop o (ident h s m c .octets))) ∷ []) i old
+      unfolding part
+      item-body at k o f e l i old =
+          ap (λ (x : List ℕ). laidAt 8 x i (laidAt 4 (part c 4 4) i old)) (ap (λ (x : ℕ). part sheet (x + o) k) e ∙ world .items (getD c 4 0) .own f o k l)
+          ∙ laid-two (again c 4 7) (piece 8 (take k (drop o (ident h s m c .octets)))) i old
 
       pub item-row : (x : ℕ) (ns : List ℕ) (ks : List Asked)
-          → J (itemOf sheet (layoutFor h) st cmd) (checked s (
+          → J (itemOf sheet (layoutFor h) st (named code c)) (checked s (
           check (oneOf (getD c 4 0) (map (λ (i : Ident). i .code) (h .items))) 9 4
           ∷ check (leb 1 (number c 6 2)) 9 6
           ∷ check (leb (getD c 5 0 + number c 6 2) (ident h s m c .length)) 9 6
           ∷ check (leb (number c 6 2) (h .l - 8)) 9 6
           ∷ []
           ) (row x ns ks [] (again c 4 7 ∷ piece 8 (take (number c 6 2) (drop (getD c 5 0) (ident h s m c .octets))) ∷ []) []))
-      unfolding itemOf itemData checked memoryAfter
+      unfolding itemOf itemData checked
       item-row x ns ks =
           let n = getD c 4 0 in
           let k = number c 6 2 in
@@ -287,10 +255,10 @@ module _ (h : Sheet) (sheet : List ℕ) (st : LinkState) (m c : List ℕ) where
           let w = world .items n in
           let two : le2At c 6 ≡ k = two-octets c 6 in
           found-or _ 9 (λ b.
-          via (ap (λ (y : SoughtItem). itemData (layoutFor h) st cmd y) (w .found b))
+          via (ap (λ (y : SoughtItem). itemData (layoutFor h) st (named code c) y) (w .found b))
           (step _ _ 9 (ap (λ (i : ℕ). eqb i 0) two ∙ none-not k) (λ d.
           step _ _ 9 (ap (λ (i : ℕ). ltb size (o + i)) two ∙ less-not size (o + k)) (λ e.
           step _ _ 9 (ap (ltb (h .l - 8)) two ∙ less-not (h .l - 8) k) (λ f.
           via (ap (λ (i : ℕ). Accepted (Identifies (w .at + o) i) st) two)
-          (doing (Identifies (w .at + o) k) st kept (item-body (w .at) k o b refl (leb-true (o + k) size e) (leb-true k (h .l - 8) f)) unmoved))))))
-          (λ b. via (ap (λ (y : SoughtItem). itemData (layoutFor h) st cmd y) (w .missing b)) (refusing 9))
+          (doing (Identifies (w .at + o) k) st kept (item-body (w .at) k o b refl (leb-true (o + k) size e)) (identifies-keep c m (w .at + o) k ∙ unmoved)))))))
+          (λ b. via (ap (λ (y : SoughtItem). itemData (layoutFor h) st (named code c) y) (w .missing b)) (refusing 9))

@@ -8,7 +8,8 @@ use native.Mathlib.Omega.{arith}
 use borrow.Author.Tests.{ltb-false, eqb-true, eqb-false, not-false}
 use lib.ListN.{length}
 use Rattle.octets.proofs.Pick.{pick-both, pick-cases}
-use Rattle.frame.specs.Body.{dataFrom, Fitting, Storing}
+use Rattle.frame.specs.Body.{dataFrom, Fitting}
+use Rattle.frame.proofs.Rooms.{parameter-room, memory-room, quiet-fits, reads-fit, writes-fit, identifies-fit, alarms-fit, connects-fit}
 use Rattle.link.specs.declared.state.LinkState.{LinkState}
 use Rattle.machine.specs.Connecting.{connectOf}
 use Rattle.machine.specs.Judging.{parameterData, parameterOf, itemData, itemOf, alarmsOf, clearOf, elementOf, memoryOf, dataOf, judgeOf}
@@ -17,8 +18,7 @@ use Rattle.machine.specs.Spans.{moved, spanPlace, placeIn, spanOf}
 use Rattle.machine.specs.declared.words.Carrier.{Carrier}
 use Rattle.machine.specs.declared.words.Carrier.the-variants.{Parameter as ByParameter, Memory as ByMemory}
 use Rattle.machine.specs.declared.words.Command.{Command}
-use Rattle.machine.specs.declared.words.Effect.{Effect}
-use Rattle.machine.specs.declared.words.Effect.the-variants.{Quiet, Reads, Writes, Identifies, Alarms, Connects}
+use Rattle.machine.specs.declared.words.Effect.the-variants.{Quiet}
 use Rattle.machine.specs.declared.words.Judgement.{Judgement}
 use Rattle.machine.specs.declared.words.Judgement.the-variants.{Refused, Accepted}
 use Rattle.machine.specs.declared.words.Outcome.{Outcome}
@@ -39,21 +39,15 @@ abbrev Fit : Judgement → ℕ → ℕ → ℕ → Type 0
 Fit (Refused alarm) l m s = Unit {0}
 Fit (Accepted effect next) l m s = Fitting effect l m s
 
--- what fits, stores
-pub fits-stored : (e : Effect) (l m s : ℕ) → Fitting e l m s → Storing e l m
-fits-stored Quiet l m s f = tt
-fits-stored (Reads by place n) l m s f = tt
-fits-stored (Writes by place n) l m s f = f
-fits-stored (Identifies at n) l m s f = tt
-fits-stored (Alarms old fault) l m s f = tt
-fits-stored Connects l m s f = tt
-
 moved-fits : (writes : Bool) (by : Carrier) (place n l m s : ℕ) → dataFrom by + n ≤ l → place + n ≤ m → Fitting (moved writes by place n) l m s
 unfolding moved
-moved-fits true by place n l m s d p = (d, p)
-moved-fits false by place n l m s d p = (d, p)
+moved-fits true by place n l m s d p = writes-fit l m s by place n d p
+moved-fits false by place n l m s d p = reads-fit l m s by place n d p
 
 module _ (s : List ℕ) (lay : Layout) (ok : ValidSheet s lay) (st : LinkState) (c : Command) where
+  quiet : Fitting Quiet (lay .l) (lay .memory) (length s)
+  quiet = quiet-fits (lay .l) (lay .memory) (length s)
+
   -- a span that is wholly mapped stands inside the memory
   span-room : (a n : ℕ) → 1 ≤ n → spanHas (regionsOf s (lay .regions)) Mapped a n ≡ true → spanPlace (regionsOf s (lay .regions)) a + n ≤ lay .memory
   unfolding placeIn
@@ -88,7 +82,7 @@ module _ (s : List ℕ) (lay : Layout) (ok : ValidSheet s lay) (st : LinkState) 
       let same = eqb-true (c .size) (p .size) (not-false _ u) in
       let room = ltb-false (lay .l - 8) (c .size) v in
       let some = fine .some in
-      span-fits writes ByParameter (p .address) (p .size) some (omega arith)))
+      span-fits writes ByParameter (p .address) (p .size) some (parameter-room (p .size) (lay .l) some (omega arith))))
 
   item-found : (x : SoughtItem) → soughtItem (itemsOf s (lay .regions) (lay .parameters) (lay .items)) (c .item) ≡ x
       → Fit (itemData lay st c x) (lay .l) (lay .memory) (length s)
@@ -101,13 +95,14 @@ module _ (s : List ℕ) (lay : Layout) (ok : ValidSheet s lay) (st : LinkState) 
       (λ v.
       pick-cases (λ (j : Judgement). Fit j (lay .l) (lay .memory) (length s)) _ (λ w. tt)
       (λ w.
-      let some = eqb-false (c .count) 0 u in
+      let none = eqb-false (c .count) 0 u in
+      let some : 1 ≤ c .count = omega arith in
       let own = ltb-false (i .length) (c .offset + c .count) v in
       let room = ltb-false (lay .l - 8) (c .count) w in
       let fine = valid-item s lay ok (c .item) i e in
       let most = fine .most in
       let inside = item-inside s lay ok (c .item) i e in
-      (omega arith, omega arith))))
+      identifies-fit (lay .l) (lay .memory) (length s) (i .at + c .offset) (c .count) some room (omega arith))))
 
   memory-fits : (writes : Bool) → Fit (memoryOf writes s lay st c) (lay .l) (lay .memory) (length s)
   unfolding memoryOf
@@ -117,27 +112,28 @@ module _ (s : List ℕ) (lay : Layout) (ok : ValidSheet s lay) (st : LinkState) 
       (λ u.
       pick-cases (λ (j : Judgement). Fit j (lay .l) (lay .memory) (length s)) _ (λ v. tt)
       (λ v.
-      let some = eqb-false (c .count * elementOf (c .mode)) 0 u in
+      let none = eqb-false (c .count * elementOf (c .mode)) 0 u in
+      let some : 1 ≤ c .count * elementOf (c .mode) = omega arith in
       let room = ltb-false (lay .l - 12) (c .count * elementOf (c .mode)) v in
-      span-fits writes ByMemory (c .address) (c .count * elementOf (c .mode)) (omega arith) (omega arith))))
+      span-fits writes ByMemory (c .address) (c .count * elementOf (c .mode)) some (memory-room (c .count * elementOf (c .mode)) (lay .l) some room))))
 
-  alarms-fit : Fit (alarmsOf lay st c) (lay .l) (lay .memory) (length s)
+  alarms-told : Fit (alarmsOf lay st c) (lay .l) (lay .memory) (length s)
   unfolding alarmsOf
-  alarms-fit =
+  alarms-told =
       pick-cases (λ (j : Judgement). Fit j (lay .l) (lay .memory) (length s)) _ (λ u. tt)
       (λ u.
       pick-both (λ (j : Judgement). Fit j (lay .l) (lay .memory) (length s)) _ tt
-      (let h = ltb-false (lay .l) 16 u in omega arith))
+      (alarms-fit (lay .l) (lay .memory) (length s) (st .latches .command) (st .latches .communication) (ltb-false (lay .l) 16 u)))
 
   clear-fits : Fit (clearOf st c) (lay .l) (lay .memory) (length s)
   unfolding clearOf
-  clear-fits = pick-both (λ (j : Judgement). Fit j (lay .l) (lay .memory) (length s)) _ tt tt
+  clear-fits = pick-both (λ (j : Judgement). Fit j (lay .l) (lay .memory) (length s)) _ tt quiet
 
   connect-fits : Fit (connectOf lay st c) (lay .l) (lay .memory) (length s)
   unfolding connectOf
   connect-fits =
       let P : Judgement → Type 0 = λ j. Fit j (lay .l) (lay .memory) (length s) in
-      pick-both P _ tt (pick-both P _ tt (pick-both P _ tt (pick-both P _ tt (length-least s lay ok))))
+      pick-both P _ tt (pick-both P _ tt (pick-both P _ tt (pick-both P _ tt (connects-fit (lay .l) (lay .memory) (length s) (length-least s lay ok)))))
 
   judge-fits : Fit (judgeOf s lay st c) (lay .l) (lay .memory) (length s)
   unfolding judgeOf dataOf parameterOf itemOf
@@ -145,26 +141,26 @@ module _ (s : List ℕ) (lay : Layout) (ok : ValidSheet s lay) (st : LinkState) 
       let P : Judgement → Type 0 = λ j. Fit j (lay .l) (lay .memory) (length s) in
       pick-both P _ tt
       (pick-both P _ tt
-      (pick-both P _ tt
+      (pick-both P _ quiet
       (pick-both P _ (parameter-found false _ refl)
       (pick-both P _ (parameter-found true _ refl)
       (pick-both P _ (item-found _ refl)
-      (pick-both P _ alarms-fit
+      (pick-both P _ alarms-told
       (pick-both P _ clear-fits
-      (pick-both P _ tt
+      (pick-both P _ quiet
       (pick-both P _ connect-fits
-      (pick-both P _ tt
+      (pick-both P _ quiet
       (pick-both P _ (memory-fits false) (memory-fits true))))))))))))
 
   finished-fits : (j : Judgement) → Fit j (lay .l) (lay .memory) (length s) → Fitting (finished st c j .effect) (lay .l) (lay .memory) (length s)
   unfolding finished
-  finished-fits (Refused alarm) f = tt
+  finished-fits (Refused alarm) f = quiet
   finished-fits (Accepted effect next) f = f
 
   pub outcome-fits : Fitting (outcomeOf s lay st c .effect) (lay .l) (lay .memory) (length s)
   unfolding outcomeOf
   outcome-fits =
-      pick-both (λ (o : Outcome). Fitting (o .effect) (lay .l) (lay .memory) (length s)) _ tt (finished-fits (judgeOf s lay st c) judge-fits)
+      pick-both (λ (o : Outcome). Fitting (o .effect) (lay .l) (lay .memory) (length s)) _ quiet (finished-fits (judgeOf s lay st c) judge-fits)
 
 -- on lent lists of the right lengths the effect fits
 pub lent-fits : (sheet memory command reply : List ℕ) (lay : Layout) (st : LinkState) → Lent sheet memory command reply lay

@@ -3,9 +3,9 @@ use mathlib.Core.Path.{sym, ap, _∙_}
 use native.Mathlib.Omega.{arith}
 use borrow.Author.Needs.{needs}
 use Rattle.frame.specs.Body.{replyOf}
+use Rattle.frame.proofs.Replies.{built-reply}
 use Rattle.machine.specs.Outcomes.{outcomeOf}
 use Rattle.sheet.proofs.Valid.{valid-sheet, valid-counted, length-least}
-use Rattle.slave.proofs.Built.{built-reply}
 use Rattle.slave.proofs.Fits.{lent-fits}
 use Rattle.slave.proofs.exchanging.build.Statement.{statement}
 use Rattle.slave.proofs.exchanging.build.Tie as tie

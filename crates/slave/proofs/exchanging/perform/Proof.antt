@@ -9,6 +9,7 @@ use lib.ListN.{length}
 use Rattle.octets.proofs.Pick.{pick-eq, pick-ne}
 use Rattle.frame.specs.Body.{memoryAfter}
 use Rattle.frame.specs.Fields.{commandOf}
+use Rattle.frame.proofs.Rooms.{fits-stored}
 use Rattle.link.specs.Stored.{octetsOf}
 use Rattle.link.proofs.Back.{written, read-valid}
 use Rattle.machine.specs.declared.words.Outcome.{Outcome}
@@ -16,7 +17,7 @@ use Rattle.sheet.proofs.Valid.{valid-sheet, length-most}
 use Rattle.slave.specs.Exchange.{exchanged}
 use Rattle.slave.specs.Wanted.{differsAt, stepped, steppedOf, performed}
 use Rattle.slave.proofs.Differs.{differs-most}
-use Rattle.slave.proofs.Fits.{lent-fits, ready-lent, fits-stored}
+use Rattle.slave.proofs.Fits.{lent-fits, ready-lent}
 use Rattle.slave.proofs.exchanging.perform.Statement.{statement}
 use Rattle.slave.proofs.exchanging.perform.Tie as tie
 
@@ -46,7 +47,7 @@ store-requires c κs =
     let o = c .before .before .before .before .before .before .before .build .result in
     let f = lent-fits (a .sheet .now) (a .memory .now) (a .command .now) (a .reply .now) (a .layout) (a .st) (ready-lent _ _ _ _ _ _ _ p)
     (commandOf (a .command .now)) o (a .command .now) (c .before .before .before .before .before .before .before .build .ensures .0) (p .asked ∙ sym (p .lent)) in
-    fits-stored (o .effect) (length (a .command .now)) (length (a .memory .now)) (length (a .sheet .now)) (f .1)
+    fits-stored (length (a .command .now)) (length (a .memory .now)) (length (a .sheet .now)) (o .effect) (f .1)
 
 returns-2 : tie.Need-returns-2
 unfolding steppedOf exchanged
