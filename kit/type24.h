@@ -209,7 +209,7 @@ uint64_t t24_replay(const uint8_t *sheet, size_t sheet_len,
 }
 #endif
 
-/* The number in an answer: T24_DONE or why nothing was done. */
+/* The number in an answer: T24_DONE, T24_TRACE_DIFFERS, or why nothing was done. */
 static inline uint32_t t24_number(uint64_t answer)
 {
     return answer & 0xFFFFFFFFu;

@@ -3,7 +3,7 @@
 --     seen-whole, seen-code, seen-alarm           the reply's length, code and alarm
 --     seen-zero                                   without a body all octets from 4 on are 0
 --     seen-link                                   the link afterwards is what the command made of it
-use mathlib.Core.Bool.{Bool, true, false, _&&_}
+use mathlib.Core.Bool.{Bool, true, false}
 use mathlib.Core.Logic.{⊎-elim}
 use mathlib.Core.Path.{_≡_, sym, ap, _∙_}
 use mathlib.Core.List.{List, [], _∷_}
@@ -18,8 +18,8 @@ use Rattle.slave.specs.Exchange.{left, exchanged, exchangeOf}
 use Rattle.replay.proofs.Steps.{is-exchanged}
 use Rattle.law.specs.Words.{Every, when, octet, Piece, piece, laid, over}
 use Rattle.law.specs.Sheet.{Sheet, FiveLengths, sheetOctets}
-use Rattle.law.specs.State.{link, rsn, commandLatch, communicationLatch}
-use Rattle.law.specs.Exchange.{Fate, mn, fateOf, watched, stateAfter, replyFor}
+use Rattle.law.specs.State.{link, rsn, communicationLatch}
+use Rattle.law.specs.Exchange.{Fate, mn, fateOf, watched, stateAfter, headFor, replyFor}
 use Rattle.law.specs.Calls.{Result, done}
 use Rattle.law.proofs.Calls.{leaves, done-same}
 use Rattle.law.proofs.Clauses.{state-yes}
@@ -57,14 +57,8 @@ module _ (h : Sheet) (s m c : List ℕ) (long : 8 ≤ h .l) where
   abbrev t : List ℕ
   t = lawful h s m c .state
 
-  -- the four octets of the head
   abbrev head : List ℕ
-  head =
-      octet c 0
-      ∷ when (eqb (link t) 3) (16 * rsn t + mn c) 0
-      ∷ (4 + when (eqb (commandLatch t) 0 && eqb (communicationLatch t) 0) 0 1)
-      ∷ (f .alarm + 16 * communicationLatch t)
-      ∷ []
+  head = headFor c (f .alarm) t
 
   zeros : length {A = ℕ} (replicate (h .l) 0) ≡ h .l
   zeros = length-replicate {A = ℕ} (h .l) 0
@@ -113,19 +107,19 @@ module _ (h : Sheet) (s m c : List ℕ) (long : 8 ≤ h .l) where
       (lt-or-le k (h .l))
 
   -- the watchdog's fields stand behind the link
-  watched-further : (begins ends : ℕ) (b d : Bool) (x y : ℕ)
+  watched-further : (linkBefore linkAfter : ℕ) (b d : Bool) (x y : ℕ)
       → Every (λ (p : Piece). 1 < p .first) (when b (when d (piece 5 (1 ∷ x ∷ y ∷ []) ∷ []) (piece 3 (0 ∷ []) ∷ piece 5 (0 ∷ 0 ∷ 0 ∷ []) ∷ [])) (when d (piece 5 (0 ∷ 0 ∷ 0 ∷ []) ∷ []) []))
   unfolding when
-  watched-further begins ends true true x y = (omega arith, tt)
-  watched-further begins ends true false x y = (omega arith, (omega arith, tt))
-  watched-further begins ends false true x y = (omega arith, tt)
-  watched-further begins ends false false x y = tt
+  watched-further linkBefore linkAfter true true x y = (omega arith, tt)
+  watched-further linkBefore linkAfter true false x y = (omega arith, (omega arith, tt))
+  watched-further linkBefore linkAfter false true x y = (omega arith, tt)
+  watched-further linkBefore linkAfter false false x y = tt
 
-  pub seen-link : 2 ≤ length s → link t ≡ laid (f .state) 1 (link s)
+  pub seen-link : 2 ≤ length s → link t ≡ laid (f .changes) 1 (link s)
   unfolding stateAfter watched
   seen-link two =
-      let o = over (f .state) s in
-      let n = over-length 0 (f .state) s in
+      let o = over (f .changes) s in
+      let n = over-length 0 (f .changes) s in
       over-at 0 (watched (link s) (link o) s (mn c)) o 1 (omega arith)
       ∙ laid-before (watched (link s) (link o) s (mn c)) 1 (getD o 1 0) (watched-further (link s) (link o) (eqb (link s) 3) (eqb (link o) 3) (mn c) ((rsn s + 1) % 16))
-      ∙ over-at 0 (f .state) s 1 (omega arith)
+      ∙ over-at 0 (f .changes) s 1 (omega arith)

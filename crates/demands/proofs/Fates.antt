@@ -13,11 +13,11 @@ use native.Mathlib.Omega.{arith}
 use borrow.Author.Tests.{ltb-true, leb-true, eqb-true}
 use lib.Dec.{eqb, leb, ltb}
 use lib.ListN.{take, drop}
-use Rattle.law.specs.Words.{when, Every, oneOf, octet, number, Piece, piece, laid}
+use Rattle.law.specs.Words.{when, Every, oneOf, octet, numberAt, Piece, piece, laid}
 use Rattle.law.specs.Sheet.{Sheet}
 use Rattle.law.specs.State.{link}
 use Rattle.law.specs.Memory.{cells, writable, hasAll}
-use Rattle.law.specs.Table.{Asked, check, Row, table, parameter, n}
+use Rattle.law.specs.Table.{Check, check, Row, table, parameter, n}
 use Rattle.law.specs.Exchange.{Fate, fate, lost, missed, refused, checked, judged, fateOf}
 use Rattle.law.proofs.Laid.{when-yes, when-no}
 
@@ -31,11 +31,11 @@ when-cases P true p q = p refl
 when-cases P false p q = q refl
 
 -- a check holds
-abbrev pub Holds : Asked → Type 0
+abbrev pub Holds : Check → Type 0
 Holds k = k .holds ≡ true
 
 -- every alarm of the table is named: it is not 0, and fits half an octet
-abbrev namedChecks : List Asked → Bool
+abbrev namedChecks : List Check → Bool
 namedChecks [] = true
 namedChecks (k ∷ ks) = (leb 1 (k .alarm) && ltb (k .alarm) 16) && namedChecks ks
 
@@ -45,10 +45,10 @@ namedRows (r ∷ rs) = namedChecks (r .checks) && namedRows rs
 
 -- the row, done
 abbrev pub doneRow : Row → Fate
-doneRow r = fate 0 (r .state) (r .body) (r .memory)
+doneRow r = fate 0 (r .changes) (r .body) (r .stores)
 
 module _ (s : List ℕ) (P : Fate → Type 0) (not-done : (a : ℕ) → 1 ≤ a → a < 16 → P (refused s a)) where
-  checked-by : (ks : List Asked) (r : Row) → namedChecks ks ≡ true → (Every Holds ks → P (doneRow r)) → P (checked s ks r)
+  checked-by : (ks : List Check) (r : Row) → namedChecks ks ≡ true → (Every Holds ks → P (doneRow r)) → P (checked s ks r)
   unfolding checked
   checked-by [] r e go = go tt
   checked-by (k ∷ ks) r e go =
@@ -155,14 +155,14 @@ module _ (h : Sheet) (s m c : List ℕ) where
     pub address : ℕ
     pub size : ℕ
     pub from : ℕ
-    pub stores : f .memory ≡ piece address (take size (drop from c)) ∷ []
+    pub stores : f .stores ≡ piece address (take size (drop from c)) ∷ []
     pub right : hasAll (writable (link s)) (cells (h .regions)) address size ≡ true
     pub fits : from + size ≤ h .l
 
-  pub fate-writes : 8 ≤ h .l → (fateOf h s m c .memory ≡ []) ⊎ Writing (fateOf h s m c)
+  pub fate-writes : 8 ≤ h .l → (fateOf h s m c .stores ≡ []) ⊎ Writing (fateOf h s m c)
   unfolding refused
   fate-writes long =
-      fate-by (λ f. (f .memory ≡ []) ⊎ Writing f) (inl refl) (λ a l u. inl refl) (
+      fate-by (λ f. (f .stores ≡ []) ⊎ Writing f) (inl refl) (λ a l u. inl refl) (
         λ a b. inl refl,
         (
           λ a b. inl refl,
@@ -193,7 +193,7 @@ module _ (h : Sheet) (s m c : List ℕ) where
                           (
                             λ a b. inr (record {
                               alarm = refl;
-                              address = number c 8 4;
+                              address = numberAt c 8 4;
                               size = n h s m c;
                               from = 12;
                               stores = refl;
@@ -220,10 +220,10 @@ module _ (h : Sheet) (s m c : List ℕ) where
   latch-stays false a x = refl
 
   -- no command that is judged lets the link fall from 3 to 2
-  pub row-stays : link s ≡ 3 → laid (row .state) 1 (link s) ≡ 2 → ⊥
+  pub row-stays : link s ≡ 3 → laid (row .changes) 1 (link s) ≡ 2 → ⊥
   unfolding refused laid when
   row-stays =
-      judged-by s (λ f. link s ≡ 3 → laid (f .state) 1 (link s) ≡ 2 → ⊥)
+      judged-by s (λ f. link s ≡ 3 → laid (f .changes) 1 (link s) ≡ 2 → ⊥)
       (λ a l u e q. same e (sym (latch-stays (eqb (octet s 8) 0) a (link s)) ∙ q)) (octet c 0) (table h s m c) named
       (stay, (stay, (stay, (stay, (stay, (stay, (away 2 (omega arith), (away 1 (omega arith), (λ a b e q. let w : ⊥ = omega arith in w, (stay, (stay, tt)))))))))))
     where

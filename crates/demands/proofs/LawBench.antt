@@ -24,7 +24,7 @@ p-good = record {
     record {
       number = omega arith;
       address = omega arith;
-      some = omega arith;
+      least = omega arith;
       most = omega arith;
       spans = λ (a : ℕ) (l : 0x1002 ≤ a) (u : a < 0x1002 + 2). inl (omega arith, omega arith);
     },

@@ -40,13 +40,13 @@ module _ (h : Sheet) (sheet s m c r : List ℕ) (a : Answered h sheet s m c r) w
   alarm-is = ap (λ (l : Left). alarmIn (l .reply)) is ∙ seen-alarm h s m c long
 
   -- a fate without body and stored octets, and what it does to the state
-  by-fate : (f : Fate) → fateOf h s m c ≡ f → f .body ≡ [] → f .memory ≡ []
-      → (missed s c ≡ true → (alarmIn (x .reply) ≡ 0) × (x .state ≡ stateAfter s (mn c) (lost .state)))
-      → (missed s c ≡ false → (alarmIn (x .reply) ≡ 0 → ⊥) × (x .state ≡ stateAfter s (mn c) (refused s (alarmIn (x .reply)) .state)))
+  by-fate : (f : Fate) → fateOf h s m c ≡ f → f .body ≡ [] → f .stores ≡ []
+      → (missed s c ≡ true → (alarmIn (x .reply) ≡ 0) × (x .state ≡ stateAfter s (mn c) (lost .changes)))
+      → (missed s c ≡ false → (alarmIn (x .reply) ≡ 0 → ⊥) × (x .state ≡ stateAfter s (mn c) (refused s (alarmIn (x .reply)) .changes)))
       → RefusedByReply h s m c x
   by-fate f e body memory watchdog alarm = record {
     reply-built = ap (λ (l : Left). l .answer) is;
-    nothing-stored = ap (λ (l : Left). l .memory) is ∙ ap (λ (ps : List Piece). stored ps (cells (h .regions)) m) (ap (λ (g : Fate). g .memory) e ∙ memory)
+    nothing-stored = ap (λ (l : Left). l .memory) is ∙ ap (λ (ps : List Piece). stored ps (cells (h .regions)) m) (ap (λ (g : Fate). g .stores) e ∙ memory)
         ∙ stored-none (cells (h .regions)) m (a .whole ∙ sym (length-cells (h .regions)));
     whole = ap (λ (l : Left). length (l .reply)) is ∙ seen-whole h s m c long;
     code-again = ap (λ (l : Left). getD (l .reply) 0 0) is ∙ seen-code h s m c long;
@@ -55,8 +55,8 @@ module _ (h : Sheet) (sheet s m c r : List ℕ) (a : Answered h sheet s m c r) w
     by-alarm = alarm;
   }
 
-  state-is : (f : Fate) → fateOf h s m c ≡ f → x .state ≡ stateAfter s (mn c) (f .state)
-  state-is f e = ap (λ (l : Left). l .state) is ∙ ap (λ (g : Fate). stateAfter s (mn c) (g .state)) e
+  state-is : (f : Fate) → fateOf h s m c ≡ f → x .state ≡ stateAfter s (mn c) (f .changes)
+  state-is f e = ap (λ (l : Left). l .state) is ∙ ap (λ (g : Fate). stateAfter s (mn c) (g .changes)) e
 
   row-alarm : missed s c ≡ false → accepted h s m c ≡ false → judged s (octet c 0) (table h s m c) .alarm ≡ 0 → ⊥
   row-alarm t f z =
@@ -66,7 +66,7 @@ module _ (h : Sheet) (sheet s m c r : List ℕ) (a : Answered h sheet s m c r) w
   unfolding refused
   refused-body n = refl
 
-  refused-memory : (n : ℕ) → refused s n .memory ≡ []
+  refused-memory : (n : ℕ) → refused s n .stores ≡ []
   unfolding refused
   refused-memory n = refl
 
@@ -81,7 +81,7 @@ module _ (h : Sheet) (sheet s m c r : List ℕ) (a : Answered h sheet s m c r) w
       (λ u. true-not-false (sym u ∙ t))
       (λ u. (
         λ z. row-alarm t f (sym seen ∙ z),
-        state-is (refused s (row .alarm)) e ∙ ap (λ (n : ℕ). stateAfter s (mn c) (refused s n .state)) (sym seen),
+        state-is (refused s (row .alarm)) e ∙ ap (λ (n : ℕ). stateAfter s (mn c) (refused s n .changes)) (sym seen),
       ))
 
 pub refused-on-the-wire : RefusedOnTheWire

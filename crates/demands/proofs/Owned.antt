@@ -90,20 +90,20 @@ module _ (h : Sheet) (sheet s m c r : List ℕ) (a : Answered h sheet s m c r) w
   fit : length m ≡ length (cells (h .regions))
   fit = a .whole ∙ sym (length-cells (h .regions))
 
-  memory-is : exchangeOf sheet s m c r .memory ≡ stored (f .memory) (cells (h .regions)) m
+  memory-is : exchangeOf sheet s m c r .memory ≡ stored (f .stores) (cells (h .regions)) m
   memory-is = ap (λ (x : Left). x .memory) (answered-done h sheet s m c r a)
 
   -- the octet at a place, by what lies over its address
   pub octet-is : (place : ℕ) → place < length m
-      → getD (exchangeOf sheet s m c r .memory) place 0 ≡ laid (f .memory) (cellAt (cells (h .regions)) place .address) (getD m place 0)
+      → getD (exchangeOf sheet s m c r .memory) place 0 ≡ laid (f .stores) (cellAt (cells (h .regions)) place .address) (getD m place 0)
   octet-is place l =
-      ap (λ (x : List ℕ). getD x place 0) memory-is ∙ stored-at (f .memory) (cells (h .regions)) m place fit l
-      ∙ ap (λ (k : ℕ). laid (f .memory) k (getD m place 0)) (address-cell (cells (h .regions)) place)
+      ap (λ (x : List ℕ). getD x place 0) memory-is ∙ stored-at (f .stores) (cells (h .regions)) m place fit l
+      ∙ ap (λ (k : ℕ). laid (f .stores) k (getD m place 0)) (address-cell (cells (h .regions)) place)
 
   -- past the end there is none
   pub octet-past : (place : ℕ) → length m ≤ place → getD (exchangeOf sheet s m c r .memory) place 0 ≡ getD m place 0
   octet-past place l =
-      let n : length (exchangeOf sheet s m c r .memory) ≡ length m = ap length memory-is ∙ stored-length (f .memory) (cells (h .regions)) m fit in
+      let n : length (exchangeOf sheet s m c r .memory) ≡ length m = ap length memory-is ∙ stored-length (f .stores) (cells (h .regions)) m fit in
       List·getD-eq-default (exchangeOf sheet s m c r .memory) 0 {n = place} (omega arith) ∙ sym (List·getD-eq-default m 0 {n = place} l)
 
   module _ (place address n from : ℕ) (fits : from + n ≤ length c) where
@@ -136,10 +136,10 @@ no-piece : {p : Piece} → _≡_ {A = List Piece} [] (p ∷ []) → ⊥
 no-piece e = let z : _≡_ {A = ℕ} 0 1 = ap length e in omega arith
 
 -- a fate that stores something is an accepted one
-stores-accepted : (h : Sheet) (s m c : List ℕ) (p : Piece) → fateOf h s m c .alarm ≡ 0 → fateOf h s m c .memory ≡ p ∷ [] → accepted h s m c ≡ true
+stores-accepted : (h : Sheet) (s m c : List ℕ) (p : Piece) → fateOf h s m c .alarm ≡ 0 → fateOf h s m c .stores ≡ p ∷ [] → accepted h s m c ≡ true
 stores-accepted h s m c p z e =
     ⊎-elim
-    (λ (t : missed s c ≡ true). absurd (no-piece (sym (ap (λ (g : Fate). g .memory) (fate-missed h s m c t)) ∙ e)))
+    (λ (t : missed s c ≡ true). absurd (no-piece (sym (ap (λ (g : Fate). g .stores) (fate-missed h s m c t)) ∙ e)))
     (λ (t : missed s c ≡ false). ap₂ _&&_ (ap not t) (eq-eqb _ 0 (sym (ap (λ (g : Fate). g .alarm) (fate-kept h s m c t)) ∙ z)))
     (decided (missed s c))
 
@@ -159,7 +159,7 @@ module _ (sheet s m c r : List ℕ) (place : ℕ) (none : (k : ℕ) → Wrote sh
       (λ (l : place < length m).
       octet-is h sheet s m c r a place l
       ∙ ⊎-elim
-      (λ (e : fateOf h s m c .memory ≡ []). ap (λ (ps : List Piece). laid ps at (getD m place 0)) e)
+      (λ (e : fateOf h s m c .stores ≡ []). ap (λ (ps : List Piece). laid ps at (getD m place 0)) e)
       (λ (w : Writing h s m c (fateOf h s m c)).
       let fits : w .from + w .size ≤ length c = let z = w .fits in let y = a .asked in omega arith in
       ap (λ (ps : List Piece). laid ps at (getD m place 0)) (w .stores)

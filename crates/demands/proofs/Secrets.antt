@@ -69,7 +69,7 @@ module _ (h : Sheet) (w : WellFormed h) (E : ℕ → Type 0) (readable : (i : �
             address = q .address;
             n = q .n;
             from = q .from;
-            stores = ap (λ (f : Fate). f .memory) (sym (fate-same (q .h) state m₁ m₂ command there)) ∙ q .stores;
+            stores = ap (λ (f : Fate). f .stores) (sym (fate-same (q .h) state m₁ m₂ command there)) ∙ q .stores;
             fits = q .fits;
             right = q .right;
             inside = omega arith;
@@ -98,16 +98,16 @@ module _ (h : Sheet) (w : WellFormed h) (E : ℕ → Type 0) (readable : (i : �
           let long : length m₁ ≡ length m₂ = w₁ ∙ sym w₂ in
           record {
             same = ap seen e₁
-                ∙ ap (λ (g : Fate). record { answer = told 0 0; state = stateAfter state (mn command) (g .state); reply = replyFor h command (g .alarm) (stateAfter state (mn command) (g .state)) (g .body) }) f
+                ∙ ap (λ (g : Fate). record { answer = told 0 0; state = stateAfter state (mn command) (g .changes); reply = replyFor h command (g .alarm) (stateAfter state (mn command) (g .changes)) (g .body) }) f
                 ∙ sym (ap seen e₂);
-            whole₁ = ap (λ (l : Left). length (l .memory)) e₁ ∙ stored-length (fateOf h state m₁ command .memory) (cells (h .regions)) m₁ (fit m₁ w₁) ∙ w₁;
-            whole₂ = ap (λ (l : Left). length (l .memory)) e₂ ∙ stored-length (fateOf h state m₂ command .memory) (cells (h .regions)) m₂ (fit m₂ w₂) ∙ w₂;
+            whole₁ = ap (λ (l : Left). length (l .memory)) e₁ ∙ stored-length (fateOf h state m₁ command .stores) (cells (h .regions)) m₁ (fit m₁ w₁) ∙ w₁;
+            whole₂ = ap (λ (l : Left). length (l .memory)) e₂ ∙ stored-length (fateOf h state m₂ command .stores) (cells (h .regions)) m₂ (fit m₂ w₂) ∙ w₂;
             agree = λ i. ⊎-elim
                 (λ (e : E i).
                 ⊎-elim
                 (λ (l : i < length m₁).
                 octet-is h (sheetOctets h) state m₁ command reply a₁ i l
-                ∙ ap₂ (λ (g : Fate) (x : ℕ). laid (g .memory) (cellAt (cells (h .regions)) i .address) x) f (agree i e)
+                ∙ ap₂ (λ (g : Fate) (x : ℕ). laid (g .stores) (cellAt (cells (h .regions)) i .address) x) f (agree i e)
                 ∙ sym (octet-is h (sheetOctets h) state m₂ command reply a₂ i (omega arith)))
                 (λ (l : length m₁ ≤ i).
                 octet-past h (sheetOctets h) state m₁ command reply a₁ i l ∙ agree i e ∙ sym (octet-past h (sheetOctets h) state m₂ command reply a₂ i (omega arith)))

@@ -11,11 +11,11 @@ use lib.Dec.{eqb}
 use lib.ListN.{getD, drop}
 use lib.Seq.{getD-drop}
 use Rattle.octets.proofs.Cases.{decided}
-use Rattle.law.specs.Words.{when, Every, oneOf, octet, number, piece}
+use Rattle.law.specs.Words.{when, Every, oneOf, octet, numberAt, piece}
 use Rattle.law.specs.Sheet.{Sheet}
 use Rattle.law.specs.State.{link}
 use Rattle.law.specs.Memory.{Cell, cells, readable, has, hasAll, heldAt, held}
-use Rattle.law.specs.Table.{Asked, check, Row, again, table, parameter, n}
+use Rattle.law.specs.Table.{Check, check, Row, again, table, parameter, n}
 use Rattle.law.specs.Exchange.{fate, missed, lost, checked, judged, fateOf}
 use Rattle.law.proofs.Laid.{when-yes, when-no}
 use Rattle.demands.specs.Writes.{cellAt}
@@ -59,7 +59,7 @@ Twins [] rs = rs ≡ []
 Twins (r ∷ rs) [] = ⊥
 Twins (r ∷ rs) (q ∷ qs) = Twin r q × Twins rs qs
 
-checked-same : (s : List ℕ) (ks : List Asked) (r₁ r₂ : Row) → (Every Holds ks → doneRow r₁ ≡ doneRow r₂) → checked s ks r₁ ≡ checked s ks r₂
+checked-same : (s : List ℕ) (ks : List Check) (r₁ r₂ : Row) → (Every Holds ks → doneRow r₁ ≡ doneRow r₂) → checked s ks r₁ ≡ checked s ks r₂
 unfolding checked
 checked-same s [] r₁ r₂ go = go tt
 checked-same s (k ∷ ks) r₁ r₂ go =
@@ -74,7 +74,7 @@ judged-same s code [] qs e = ap (judged s code) (sym e)
 judged-same s code (r ∷ rs) [] e = absurd e
 judged-same s code (r ∷ rs) (q ∷ qs) (t, ts) =
     let first = checked-same s (check (oneOf (link s) (r .links)) 12 0 ∷ r .checks) r q (λ all. t .done (all .1))
-    ∙ ap₂ (λ (ls : List ℕ) (ks : List Asked). checked s (check (oneOf (link s) ls) 12 0 ∷ ks) q) (t .links) (t .checks) in
+    ∙ ap₂ (λ (ls : List ℕ) (ks : List Check). checked s (check (oneOf (link s) ls) 12 0 ∷ ks) q) (t .links) (t .checks) in
     let rest = judged-same s code rs qs ts in
     λ i. when (eqb code (t .code i)) (first i) (rest i)
 
@@ -114,7 +114,7 @@ module _ (h : Sheet) (s m₁ m₂ c : List ℕ) (agree : AgreeShown (cells (h .r
                             code = refl;
                             links = refl;
                             checks = refl;
-                            done = λ all. ap (λ (x : List ℕ). fate 0 [] (again c 5 11 ∷ piece 12 x ∷ []) []) (held-same cs m₁ m₂ (number c 8 4) (n h s m₁ c) agree (all .1 .1 .1 .1 .0));
+                            done = λ all. ap (λ (x : List ℕ). fate 0 [] (again c 5 11 ∷ piece 12 x ∷ []) []) (held-same cs m₁ m₂ (numberAt c 8 4) (n h s m₁ c) agree (all .1 .1 .1 .1 .0));
                           },
                           (
                             same-row _,

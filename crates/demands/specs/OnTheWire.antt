@@ -19,9 +19,9 @@ pub record RefusedByReply (h : Sheet) (state memory command : List ℕ) (l : Lef
   pub whole : length (l .reply) ≡ h .l
   pub code-again : getD (l .reply) 0 0 ≡ getD command 0 0
   pub zero-body : (k : ℕ) → 4 ≤ k → getD (l .reply) k 0 ≡ 0
-  pub by-watchdog : missed state command ≡ true → (alarmIn (l .reply) ≡ 0) × (l .state ≡ stateAfter state (mn command) (lost .state))
+  pub by-watchdog : missed state command ≡ true → (alarmIn (l .reply) ≡ 0) × (l .state ≡ stateAfter state (mn command) (lost .changes))
   pub by-alarm : missed state command ≡ false
-      → (alarmIn (l .reply) ≡ 0 → ⊥) × (l .state ≡ stateAfter state (mn command) (refused state (alarmIn (l .reply)) .state))
+      → (alarmIn (l .reply) ≡ 0 → ⊥) × (l .state ≡ stateAfter state (mn command) (refused state (alarmIn (l .reply)) .changes))
 
 -- "A command refused on the wire builds a whole reply, updates the state and stores nothing."
 abbrev pub RefusedOnTheWire : Type 0

@@ -35,7 +35,7 @@ pub record Wrote (sheet state memory command reply : List ℕ) (place k : ℕ) :
   pub address : ℕ
   pub n : ℕ
   pub from : ℕ
-  pub stores : fateOf h state memory command .memory ≡ piece address (take n (drop from command)) ∷ []
+  pub stores : fateOf h state memory command .stores ≡ piece address (take n (drop from command)) ∷ []
   pub fits : from + n ≤ length command
   pub right : hasAll (writable (link state)) (cells (h .regions)) address n ≡ true
   pub inside : place < length memory

@@ -17,7 +17,7 @@ use Rattle.machine.specs.declared.words.Carrier.{Carrier}
 use Rattle.machine.specs.declared.words.Carrier.the-variants.{Parameter, Memory}
 use Rattle.machine.specs.declared.words.Effect.{Effect}
 use Rattle.machine.specs.declared.words.Effect.the-variants.{Quiet, Reads, Writes, Identifies, Alarms, Connects}
-use Rattle.frame.specs.Body.{dataFrom, echoFrom, echoSize, carried, bodyOf, Fitting}
+use Rattle.frame.specs.Body.{dataFrom, echoFrom, echoSize, bodyOf, Fitting}
 
 -- the octet k where s lies from a place on, over an old one
 abbrev pub laidAt : ℕ → List ℕ → ℕ → ℕ → ℕ

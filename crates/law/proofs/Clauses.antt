@@ -13,7 +13,7 @@ use Rattle.octets.proofs.Cases.{decided, lt-or-le, eq-or-ne}
 use Rattle.octets.proofs.Pick.{pick-yes, pick-no, pick-differ, pick-same}
 use Rattle.law.specs.Words.{oneOf, all, implies}
 use Rattle.law.specs.Sheet.{Sheet}
-use Rattle.law.specs.State.{link, clauses, validState}
+use Rattle.law.specs.State.{link, validWhen, validState}
 use Rattle.link.specs.Stored.{octetsOf, fieldsOf, stateOf}
 use Rattle.link.specs.Valid.{validOf, isCommandAlarm, isCommunicationAlarm}
 use Rattle.link.specs.declared.stored.Stored.the-variants.{State, Invalid}
@@ -69,7 +69,7 @@ communication-alarms a = two (eqb a 0) (eqb a 12)
 pub valid-true : (h : Sheet) (s : List ℕ) → validState h s ≡ true → (length s ≡ 10) × (getD s 0 0 ≡ 0x11) × Facts (h .l) (fieldsOf s)
 unfolding validState fieldsOf
 valid-true h s v =
-    let p = each (clauses h s) v in
+    let p = each (validWhen h s) v in
     let n = getD s 1 0 in
     let three : n ≤ 3 = leb-true n 3 (p .1 .1 .0) in
     let d1 : getD s 3 0 ≤ 1 = leb-true (getD s 3 0) 1 (p .1 .1 .1 .1 .0) in
@@ -115,7 +115,7 @@ pub valid-back : (h : Sheet) (s : List ℕ) → length s ≡ 10 → getD s 0 0 �
 unfolding validState fieldsOf
 valid-back h s e k f =
     let n = getD s 1 0 in
-    each-back (clauses h s) (
+    each-back (validWhen h s) (
       eq-eqb (length s) 10 e,
       (
         eq-eqb (getD s 0 0) 0x11 k,

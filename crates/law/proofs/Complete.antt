@@ -71,7 +71,7 @@ module _ (s : List ℕ) where
       → judgedRegion (asRegion r) end (counts n 0 0 m) ≡ Record 10 (counts (n + 1) 0 0 (m + r .length))
   unfolding judgedRegion
   judged-area r n m end g l u w =
-      pick-ne _ _ (λ (z : r .length ≡ 0). let k : ⊥ = omega (arith, g .some) in k) ∙ pick-ge _ _ (g .ends) ∙ pick-ge _ _ (g .bits) ∙ pick-gt _ _ u ∙ pick-ge _ _ w ∙ pick-ge _ _ l
+      pick-ne _ _ (λ (z : r .length ≡ 0). let k : ⊥ = omega (arith, g .least) in k) ∙ pick-ge _ _ (g .ends) ∙ pick-ge _ _ (g .bits) ∙ pick-gt _ _ u ∙ pick-ge _ _ w ∙ pick-ge _ _ l
 
   read-area : (r : Area) (t : List ℕ) (n m : ℕ) → drop (4 + 10 * n) s ≡ regionOctets r ++ t → GoodRegion r → endBefore s (counts n 0 0 m) ≤ r .start → n < 32
       → m + r .length ≤ 65536 → recordOf s (regionOctets r ++ t) (counts n 0 0 m) ≡ Record 10 (counts (n + 1) 0 0 (m + r .length))
@@ -130,7 +130,7 @@ module _ (s : List ℕ) where
         → judgedParameter (asParameter p) least mapped (paramsRead n) ≡ Record 8 (paramsRead (n + 1))
     unfolding judgedParameter
     judged-param p n least mapped g e l u =
-        pick-ne _ _ (λ (z : p .size ≡ 0). let k : ⊥ = omega (arith, g .some) in k) ∙ pick-ge _ _ (g .most) ∙ pick-gt _ _ u ∙ pick-ge _ _ l
+        pick-ne _ _ (λ (z : p .size ≡ 0). let k : ⊥ = omega (arith, g .least) in k) ∙ pick-ge _ _ (g .most) ∙ pick-gt _ _ u ∙ pick-ge _ _ l
         ∙ pick-no _ _ (ap not e)
 
     read-param : (p : Param) (t : List ℕ) (n : ℕ) → drop (4 + 10 * length rs + 8 * n) s ≡ parameterOctets p ++ t → GoodParameter rs p
@@ -184,7 +184,7 @@ module _ (s : List ℕ) where
         behind-link s 4 35 _ (identsRead n) (shorter s (itemOctets i ++ t) (4 + 10 * r + 8 * p + 35 * n) at (omega arith) (omega arith)) refl (omega arith)
         (pick-no _ _ refl ∙ pick-no _ _ refl ∙ pick-no _ _ refl ∙ pick-no _ _ refl) (omega arith)
         ∙ pick-no _ _ refl ∙ pick-no _ _ refl ∙ pick-no _ _ refl ∙ pick-no _ _ refl
-        ∙ judged-ident (itemFrom (itemOctets i ++ t) 0) n (leastCode s (identsRead n)) (allZero (tailOf (itemOctets i ++ t))) (g .some) (g .most) (tail-zero i t g) l u
+        ∙ judged-ident (itemFrom (itemOctets i ++ t) 0) n (leastCode s (identsRead n)) (allZero (tailOf (itemOctets i ++ t))) (g .least) (g .most) (tail-zero i t g) l u
 
     next-ident : (i : Ident) (t : List ℕ) (n : ℕ) → drop (4 + 10 * r + 8 * p + 35 * n) s ≡ itemOctets i ++ t → GoodItem i
         → leastCode s (identsRead (n + 1)) ≡ suc (i .code)

@@ -10,7 +10,7 @@ use lib.Dec.{eqb, leb, ltb}
 use lib.ListN.{getD}
 use Rattle.octets.specs.Numbers.{le2At, le4At}
 use Rattle.octets.proofs.Cases.{lt-or-le, eq-or-ne}
-use Rattle.law.specs.Words.{number, oneOf, bit}
+use Rattle.law.specs.Words.{numberAt, oneOf, bit}
 use Rattle.law.specs.Sheet.{Parameter as Param}
 use Rattle.law.specs.Table.{comMod, parameterOf as paramOf, element}
 use Rattle.machine.specs.Connecting.{comModFits, comTimeFits}
@@ -31,7 +31,7 @@ none-not n =
     ⊎-elim (λ (l : n < 1). absurd (e (omega arith))) (λ (l : 1 ≤ n). l) (lt-or-le n 1)))))
     (eq-or-ne n 0)
 
-pub two-octets : (c : List ℕ) (i : ℕ) → le2At c i ≡ number c i 2
+pub two-octets : (c : List ℕ) (i : ℕ) → le2At c i ≡ numberAt c i 2
 two-octets c i = ap (λ (n : ℕ). getD c i 0 + 256 * n) (ap (λ (k : ℕ). getD c k 0) (let e : i + 1 ≡ suc i = omega arith in e) ∙ (let e : getD c (suc i) 0 ≡ getD c (suc i) 0 + 256 * 0 = omega arith in e))
 
 -- com_mod
@@ -109,7 +109,7 @@ param-missing (p ∷ ps) n e =
     pick-ne _ _ q ∙ param-missing ps n (sym (ap (λ (b : Bool). b || oneOf n (map (λ (p : Param). p .number) ps)) f) ∙ e))
     (eq-or-ne (p .number) n)
 
-pub four-octets : (c : List ℕ) → le4At c 8 ≡ number c 8 4
+pub four-octets : (c : List ℕ) → le4At c 8 ≡ numberAt c 8 4
 four-octets c = omega arith
 
 -- octet 5 of the memory commands

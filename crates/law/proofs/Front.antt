@@ -171,7 +171,7 @@ module _ (s : List ℕ) (octs : Every IsOctet s) where
         let o₂ = o (b + 5 + 1) in
         let o₃ = o (b + 5 + 2) in
         let o₄ = o (b + 5 + 3) in
-        record { start = omega (arith, g .some, g .ends); length = omega arith; some = g .some; ends = g .ends; bits = g .bits }
+        record { start = omega (arith, g .some, g .ends); length = omega arith; least = g .some; ends = g .ends; bits = g .bits }
 
     good-param : (j : ℕ) → j < so .parameters → GoodParameter (readSheet s so .regions) (asParam (parameterAt s (so .regions) j))
     unfolding parameterFrom
@@ -188,7 +188,7 @@ module _ (s : List ℕ) (octs : Every IsOctet s) where
         record {
           number = omega (arith, n₁, n₂);
           address = omega (arith, o₁, o₂, o₃, o₄);
-          some = g .some;
+          least = g .some;
           most = g .most;
           spans = λ a l u. grants-has (regionAt s) 0 (so .regions) a (all-before (regionsOf s (so .regions)) Mapped (p .address) (p .size) (g .mapped) a l u);
         }
@@ -206,7 +206,7 @@ module _ (s : List ℕ) (octs : Every IsOctet s) where
         ∙ sym (drop-take z 32 (drop (b + 3) s)) in
         record {
           code = o (b + 1);
-          some = g .some;
+          least = g .some;
           most = g .most;
           all32 = length-take-le 32 (drop (b + 3) s) (omega arith);
           octets = octets-take 32 (drop (b + 3) s) (octets-drop (b + 3) s octs);

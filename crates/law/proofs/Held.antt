@@ -14,7 +14,7 @@ use Rattle.octets.proofs.Cases.{decided, lt-or-le}
 use Rattle.octets.proofs.Pick.{pick-yes, pick-no}
 use Rattle.law.specs.Words.{Every, From, InARow, Piece, piece, laid}
 use Rattle.law.specs.Sheet.{Region as Area, GoodRegion, room}
-use Rattle.law.specs.Memory.{Cell, run, cells, stored, heldAt, held}
+use Rattle.law.specs.Memory.{Cell, cellsFrom, cells, stored, heldAt, held}
 use Rattle.machine.specs.Spans.{placeIn, spanPlace}
 use Rattle.regions.specs.Apart.{Apart}
 use Rattle.regions.specs.Region.{holdsOf}
@@ -36,24 +36,24 @@ addressOf [] i = 0
 addressOf (x ∷ xs) zero = x .address
 addressOf (x ∷ xs) (suc i) = addressOf xs i
 
-length-run : (start n rights : ℕ) → length (run start n rights) ≡ n
+length-run : (start n rights : ℕ) → length (cellsFrom start n rights) ≡ n
 length-run start zero rights = refl
 length-run start (suc n) rights = ap suc (length-run (suc start) n rights)
 
 pub length-cells : (rs : List Area) → length (cells rs) ≡ room rs
 length-cells [] = refl
 length-cells (r ∷ rs) =
-    length-append (run (r .start) (r .length) (r .rights)) (cells rs) ∙ ap₂ _+_ (length-run (r .start) (r .length) (r .rights)) (length-cells rs)
+    length-append (cellsFrom (r .start) (r .length) (r .rights)) (cells rs) ∙ ap₂ _+_ (length-run (r .start) (r .length) (r .rights)) (length-cells rs)
 
-run-here : (start n rights : ℕ) (rest : List Cell) (i : ℕ) → i < n → addressOf (run start n rights ++ rest) i ≡ start + i
+run-here : (start n rights : ℕ) (rest : List Cell) (i : ℕ) → i < n → addressOf (cellsFrom start n rights ++ rest) i ≡ start + i
 run-here start zero rights rest i l = absurd (let w : ⊥ = omega arith in w)
 run-here start (suc n) rights rest zero l = omega arith
 run-here start (suc n) rights rest (suc i) l = run-here (suc start) n rights rest i (omega arith) ∙ (let e : suc start + i ≡ start + suc i = omega arith in e)
 
-run-past : (start n rights : ℕ) (rest : List Cell) (i : ℕ) → addressOf (run start n rights ++ rest) (n + i) ≡ addressOf rest i
+run-past : (start n rights : ℕ) (rest : List Cell) (i : ℕ) → addressOf (cellsFrom start n rights ++ rest) (n + i) ≡ addressOf rest i
 run-past start zero rights rest i = ap (addressOf rest) (let e : 0 + i ≡ i = omega arith in e)
 run-past start (suc n) rights rest i =
-    ap (addressOf (run start (suc n) rights ++ rest)) (let e : suc n + i ≡ suc (n + i) = omega arith in e) ∙ run-past (suc start) n rights rest i
+    ap (addressOf (cellsFrom start (suc n) rights ++ rest)) (let e : suc n + i ≡ suc (n + i) = omega arith in e) ∙ run-past (suc start) n rights rest i
 
 no-spot : {p x : ℕ} → Nowhere ≡ At p x → ⊥
 no-spot e = let z : _≡_ {A = ℕ} 0 1 = cc in omega arith
@@ -96,7 +96,7 @@ above end (r ∷ rs) d i l =
     (λ (k : r .length ≤ i).
     let e : addressOf (cells (r ∷ rs)) i ≡ addressOf (cells rs) (i - r .length) =
     ap (addressOf (cells (r ∷ rs))) (let z : i ≡ r .length + (i - r .length) = omega arith in z) ∙ run-past (r .start) (r .length) (r .rights) (cells rs) (i - r .length) in
-    let a = length-append (run (r .start) (r .length) (r .rights)) (cells rs) in
+    let a = length-append (cellsFrom (r .start) (r .length) (r .rights)) (cells rs) in
     let b = length-run (r .start) (r .length) (r .rights) in
     let f = above (r .start + r .length) rs (d .2) (i - r .length) (omega arith) in
     omega arith)
@@ -105,7 +105,7 @@ above end (r ∷ rs) d i l =
 rises : (end : ℕ) (rs : List Area) → Apart' end rs → (i j : ℕ) → i < j → j < length (cells rs) → addressOf (cells rs) i < addressOf (cells rs) j
 rises end [] d i j l u = absurd (let w : ⊥ = omega arith in w)
 rises end (r ∷ rs) d i j l u =
-    let a = length-append (run (r .start) (r .length) (r .rights)) (cells rs) in
+    let a = length-append (cellsFrom (r .start) (r .length) (r .rights)) (cells rs) in
     let b = length-run (r .start) (r .length) (r .rights) in
     let past : (n : ℕ) → r .length ≤ n → addressOf (cells (r ∷ rs)) n ≡ addressOf (cells rs) (n - r .length) =
     λ n k. ap (addressOf (cells (r ∷ rs))) (let z : n ≡ r .length + (n - r .length) = omega arith in z) ∙ run-past (r .start) (r .length) (r .rights) (cells rs) (n - r .length) in
@@ -129,11 +129,11 @@ apart-regions end (r ∷ rs) d = (d .0, d .1, apart-regions (r .start + r .lengt
 
 apart-from : (r : Area) (rs : List Area) → Every GoodRegion rs → From (λ (a b : Area). a .start + a .length ≤ b .start) r rs → Apart' (r .start + r .length) rs
 apart-from r [] g d = tt
-apart-from r (x ∷ xs) g d = (d .0, g .0 .some, apart-from x xs (g .1) (d .1))
+apart-from r (x ∷ xs) g d = (d .0, g .0 .least, apart-from x xs (g .1) (d .1))
 
 pub apart-good : (rs : List Area) → Every GoodRegion rs → InARow (λ (a b : Area). a .start + a .length ≤ b .start) rs → Apart' 0 rs
 apart-good [] g d = tt
-apart-good (r ∷ rs) g d = (omega arith, g .0 .some, apart-from r rs (g .1) d)
+apart-good (r ∷ rs) g d = (omega arith, g .0 .least, apart-from r rs (g .1) d)
 
 -- the octets of a mapped span stand from the span's place on
 places-from : (rs : List Region) → Apart 0 rs → (a n : ℕ) → spanHas rs Mapped a n ≡ true → (j : ℕ) → j < n → Stands rs 0 (a + j) (spanPlace rs a + j)

@@ -88,7 +88,7 @@ module _ (h : Sheet) (w : WellFormed h) where
           record-of = sym (ap (λ (x : Result). x .state) is-done);
           facts = outcome-valid (sheetOctets h) (layoutFor h) (ready .st) (commandOf c) (h .l) (ready .facts) one;
           on = λ z. let k : ⊥ = omega arith in k;
-          whole = stored-length (fateOf h s m c .memory) (cells (h .regions)) m fit ∙ ready .whole;
+          whole = stored-length (fateOf h s m c .stores) (cells (h .regions)) m fit ∙ ready .whole;
         }
 
     -- one record: it agrees where all L octets do

@@ -91,11 +91,11 @@ module _ (s : List ℕ) (so : Counts) (fault : Fault) (memory : room (readSheet 
       let len : length (regions ++ asArea r ∷ []) ≡ n + 1 = length-append regions (asArea r ∷ []) ∙ ap (λ (k : ℕ). k + 1) (length-listed g 0 n) in
       let mem : room (regions ++ asArea r ∷ []) ≡ so .memory + r .length =
       sum-more (λ (x : Area). x .length) regions (asArea r) ∙ ap (λ (k : ℕ). k + r .length) memory in
-      decides _ Range _ refl (λ t (q : GoodRegion (asArea r)). let e = eqb-true (r .length) 0 t in omega (arith, q .some, e)) (λ t₁.
+      decides _ Range _ refl (λ t (q : GoodRegion (asArea r)). let e = eqb-true (r .length) 0 t in omega (arith, q .least, e)) (λ t₁.
       decides _ Range _ refl (λ t (q : GoodRegion (asArea r)). let e = ltb-true 4294967296 (r .start + r .length) t in omega (arith, q .ends, e)) (λ t₂.
       decides _ Range _ refl (λ t (q : GoodRegion (asArea r)). let e = ltb-true 7 (r .rights) t in omega (arith, q .bits, e)) (λ t₃.
       let z = eqb-false (r .length) 0 t₁ in
-      passes (record { start = a; length = b; some = omega arith; ends = ltb-false 4294967296 (r .start + r .length) t₂; bits = ltb-false 7 (r .rights) t₃ })
+      passes (record { start = a; length = b; least = omega arith; ends = ltb-false 4294967296 (r .start + r .length) t₂; bits = ltb-false 7 (r .rights) t₃ })
       (decides _ Excess _ refl (λ t q. let e = leb-true 32 n t in omega (arith, q .0, len, e)) (λ t₄.
       decides _ Excess _ refl (λ t q. let e = ltb-true 65536 (so .memory + r .length) t in omega (arith, q .1, mem, e)) (λ t₅.
       passes (let e = leb-false 32 n t₄ in omega (arith, len, e), let e = ltb-false 65536 (so .memory + r .length) t₅ in omega (arith, mem, e))
@@ -148,13 +148,13 @@ module _ (s : List ℕ) (so : Counts) (fault : Fault) (memory : room (readSheet 
         let d = length-drop 3 rest in
         let g : ℕ → Ident = λ j. identFrom s (4 + 10 * so .regions + 8 * so .parameters + 35 * j) in
         let len : length (listed g 0 n ++ i ∷ []) ≡ n + 1 = length-append (listed g 0 n) (i ∷ []) ∙ ap (λ (k : ℕ). k + 1) (length-listed g 0 n) in
-        decides _ Range _ refl (λ t (q : GoodItem i). let e = eqb-true (getD rest 2 0) 0 t in omega (arith, q .some, e)) (λ t₁.
+        decides _ Range _ refl (λ t (q : GoodItem i). let e = eqb-true (getD rest 2 0) 0 t in omega (arith, q .least, e)) (λ t₁.
         decides _ Range _ refl (λ t (q : GoodItem i). let e = ltb-true 32 (getD rest 2 0) t in omega (arith, q .most, e)) (λ t₂.
         decides _ Range _ refl (λ t (q : GoodItem i). true≢false (sym (ap allZero tail-is ∙ zeros-zero _ (q .zeros)) ∙ not-true _ t)) (λ t₃.
         let z = eqb-false (getD rest 2 0) 0 t₁ in
         passes (record {
           code = octet-at rest octs 1;
-          some = omega arith;
+          least = omega arith;
           most = ltb-false 32 (getD rest 2 0) t₂;
           all32 = length-take-le 32 (drop 3 rest) (omega arith);
           octets = octets-take 32 (drop 3 rest) (octets-drop 3 rest octs);

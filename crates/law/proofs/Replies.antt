@@ -17,9 +17,8 @@ use Rattle.frame.proofs.Named.{command-named}
 use Rattle.frame.proofs.Replies.{whole, code-again, rwdt-told, latched-told, alarm-told, body-at}
 use Rattle.law.specs.Words.{when, piece, laid, over}
 use Rattle.law.specs.Sheet.{Sheet}
-use Rattle.law.specs.State.{link}
-use Rattle.law.specs.Table.{Asked, Row, table}
-use Rattle.law.specs.Exchange.{Fate, refused, checked, judged, fateOf, stateAfter, replyFor}
+use Rattle.law.specs.Table.{Check, Row, table}
+use Rattle.law.specs.Exchange.{Fate, refused, checked, judged, fateOf, stateAfter, headFor, replyFor}
 use Rattle.link.specs.Stored.{octetsOf}
 use Rattle.link.specs.Valid.{isCommunicationAlarm}
 use Rattle.link.specs.declared.state.LinkState.{LinkState}
@@ -30,7 +29,7 @@ use Rattle.law.proofs.Laid.{lies, lies-here, lies-past, over-length, ov
 use Rattle.law.proofs.Rows.{Same}
 
 -- every alarm fits into a half octet
-abbrev smallChecks : List Asked → Bool
+abbrev smallChecks : List Check → Bool
 smallChecks [] = true
 smallChecks (k ∷ ks) = ltb (k .alarm) 16 && smallChecks ks
 
@@ -54,7 +53,7 @@ refused-small : (s : List ℕ) (a : ℕ) → a < 16 → Small (refused s a)
 unfolding refused
 refused-small s a l = l
 
-checked-small : (s : List ℕ) (ks : List Asked) (r : Row) → smallChecks ks ≡ true → Small (checked s ks r)
+checked-small : (s : List ℕ) (ks : List Check) (r : Row) → smallChecks ks ≡ true → Small (checked s ks r)
 unfolding checked
 checked-small s [] r e = omega arith
 checked-small s (k ∷ ks) r e =
@@ -85,16 +84,11 @@ small-latch co e =
 module _ (h : Sheet) (sheet : List ℕ) (st : LinkState) (m c : List ℕ) (o : Outcome) (f : Fate) (same : Same h sheet st m c o f) (small : f .alarm < 16)
     (v : Facts (h .l) (o .next)) (asked : length c ≡ h .l) (long : 8 ≤ h .l) (fits : Fitting (o .effect) (length c) (length m) (length sheet)) where
   abbrev t : List ℕ
-  t = stateAfter (octetsOf st) (getD c 1 0 % 16) (f .state)
+  t = stateAfter (octetsOf st) (getD c 1 0 % 16) (f .changes)
 
   -- the head by a state record and an alarm
   abbrev head : List ℕ → ℕ → List ℕ
-  head t alarm =
-      getD c 0 0
-      ∷ when (eqb (link t) 3) (16 * getD t 7 0 + getD c 1 0 % 16) 0
-      ∷ (4 + when (eqb (getD t 8 0) 0 && eqb (getD t 9 0) 0) 0 1)
-      ∷ (alarm + 16 * getD t 9 0)
-      ∷ []
+  head t alarm = headFor c alarm t
 
   abbrev reply : List ℕ
   reply = replyOf sheet m c o

@@ -8,18 +8,18 @@ use borrow.Author.Tests.{leb-true, eqb-true}
 use lib.Dec.{eqb, leb, ltb}
 use lib.ListN.{length, getD, take, drop, length-take, length-drop}
 use Rattle.octets.specs.Numbers.{le2At, le4At}
-use Rattle.octets.specs.Parts.{part, putAt}
+use Rattle.octets.specs.Parts.{part}
 use Rattle.octets.specs.Pick.{pick}
 use Rattle.frame.specs.Body.{dataFrom, memoryAfter}
 use Rattle.frame.proofs.Bodies.{laidAt, carriedAt, bodyAt}
 use Rattle.frame.proofs.Kept.{quiet-keeps, reads-keep, writes-store, identifies-keep, alarms-keep, connects-keep}
 use Rattle.frame.proofs.Named.{named}
 use Rattle.law.proofs.Layouts.{layoutFor}
-use Rattle.law.specs.Words.{when, number, oneOf, Piece, piece, laid, bit}
+use Rattle.law.specs.Words.{when, numberAt, oneOf, Piece, piece, laid, bit}
 use Rattle.law.specs.Sheet.{Item as Ident, Sheet}
 use Rattle.law.specs.State.{link}
 use Rattle.law.specs.Memory.{cells, stored, held, hasAll, mapped}
-use Rattle.law.specs.Table.{Asked, check, row, comMod, again, parameterChecks as paramChecks, memoryChecks as memChecks, parameter as param, item as ident, n as span, element}
+use Rattle.law.specs.Table.{Check, check, row, comMod, again, parameterChecks as paramChecks, memoryChecks as memChecks, parameter as param, item as ident, n as span, element}
 use Rattle.law.specs.Exchange.{Fate, fate, refused, checked}
 use Rattle.link.specs.Steps.{cleared}
 use Rattle.link.specs.Stored.{octetsOf}
@@ -38,26 +38,24 @@ use Rattle.sheet.specs.Entries.{parametersOf, soughtParameter}
 use Rattle.sheet.specs.declared.entries.SoughtItem.{SoughtItem}
 use Rattle.sheet.specs.declared.entries.SoughtParameter.{SoughtParameter}
 use Rattle.law.proofs.Spans.{all-span}
-use Rattle.machine.specs.declared.words.Command.{Command}
 use Rattle.machine.specs.declared.words.Effect.{Effect}
 use Rattle.machine.specs.declared.words.Effect.the-variants.{Quiet, Identifies, Alarms, Connects}
 use Rattle.machine.specs.declared.words.Judgement.{Judgement}
 use Rattle.machine.specs.declared.words.Judgement.the-variants.{Refused, Accepted}
 use Rattle.machine.specs.declared.words.Outcome.{Outcome}
-use Rattle.octets.proofs.Overlaid.{put-length}
 use Rattle.law.proofs.Laid.{stored-none, laid-one, laid-two}
 use Rattle.law.proofs.Goes.{connect-goes, Goes, goes-kept, goes-latched, goes-cleared}
 use Rattle.law.proofs.Layouts.{asParameter, asRegion}
 use Rattle.law.proofs.Fields.{less-not, none-not, two-octets, com-mod, com-mods, com-time, param-found, param-missing, four-octets, elements}
-use Rattle.law.proofs.World.{echo, dataPiece, written, World, held-length, mapped-is}
+use Rattle.law.proofs.World.{echo, dataPiece, written, World, mapped-is}
 
 module _ (h : Sheet) (sheet : List ℕ) (st : LinkState) (m c : List ℕ) where
   -- an outcome of the machine and a fate of the table are the same: alarm, next state, body and memory
   pub record Same (o : Outcome) (f : Fate) : Type 0 where
     pub alarm : o .alarm ≡ f .alarm
-    pub next : Goes st (o .next) (getD c 1 0 % 16) (f .state)
+    pub next : Goes st (o .next) (getD c 1 0 % 16) (f .changes)
     pub body : (k old : ℕ) → bodyAt (o .effect) sheet m c k old ≡ laid (f .body) k old
-    pub memory : memoryAfter (o .effect) c m ≡ stored (f .memory) (cells (h .regions)) m
+    pub memory : memoryAfter (o .effect) c m ≡ stored (f .stores) (cells (h .regions)) m
 
   module _ (facts : Facts (h .l) st) (on : st .link ≡ 0 → ⊥) (world : World h sheet m) (asked : length c ≡ h .l) where
     whole : length m ≡ length (cells (h .regions))
@@ -139,7 +137,7 @@ module _ (h : Sheet) (sheet : List ℕ) (st : LinkState) (m c : List ℕ) where
         ∙ world .writes a n (take n (drop (dataFrom by) c)) q (simp (length-take, length-drop) (omega arith))
 
     span-row : (writes : Bool) (by : Carrier) (right : ℕ → Bool) (a n o : ℕ) → ((x : ℕ) → right x ≡ givesOf x (rightOf writes (st .link))) → dataFrom by + n ≤ h .l
-        → (x : ℕ) (ns : List ℕ) (ks : List Asked)
+        → (x : ℕ) (ns : List ℕ) (ks : List Check)
         → J (spanOf writes (map asRegion (h .regions)) by a n st)
         (checked s (check (hasAll mapped (cells (h .regions)) a n) 9 o ∷ check (hasAll right (cells (h .regions)) a n) 10 0 ∷ [])
         (row x ns ks [] (echo c by ∷ dataPiece writes by (cells (h .regions)) m c a n ∷ []) (written writes by c a n)))
@@ -157,8 +155,8 @@ module _ (h : Sheet) (sheet : List ℕ) (st : LinkState) (m c : List ℕ) where
     -- a command of any code: only the code decides the row
     module _ (code : ℕ) where
       -- 05 ALM_RD
-      pub alarms-row : (n : ℕ) (ns : List ℕ) (ks : List Asked)
-          → J (alarmsOf (layoutFor h) st (named code c)) (checked s (check (leb 16 (h .l)) 9 0 ∷ check (eqb (number c 4 2) 0) 9 4 ∷ [])
+      pub alarms-row : (n : ℕ) (ns : List ℕ) (ks : List Check)
+          → J (alarmsOf (layoutFor h) st (named code c)) (checked s (check (leb 16 (h .l)) 9 0 ∷ check (eqb (numberAt c 4 2) 0) 9 4 ∷ [])
           (row n ns ks [] (piece 8 (getD s 8 0 ∷ getD s 9 0 ∷ []) ∷ []) []))
       unfolding alarmsOf checked
       alarms-row n ns ks =
@@ -167,19 +165,19 @@ module _ (h : Sheet) (sheet : List ℕ) (st : LinkState) (m c : List ℕ) where
           doing (Alarms (st .latches .command) (st .latches .communication)) st kept alarms-body (alarms-keep c m (st .latches .command) (st .latches .communication) ∙ unmoved)))
 
       -- 06 ALM_CLR
-      pub clear-row : (n : ℕ) (ns : List ℕ) (ks : List Asked)
-          → J (clearOf st (named code c)) (checked s (check (eqb (number c 4 2) 0) 9 4 ∷ []) (row n ns ks (piece 8 (0 ∷ []) ∷ piece 9 (0 ∷ []) ∷ []) [] []))
+      pub clear-row : (n : ℕ) (ns : List ℕ) (ks : List Check)
+          → J (clearOf st (named code c)) (checked s (check (eqb (numberAt c 4 2) 0) 9 4 ∷ []) (row n ns ks (piece 8 (0 ∷ []) ∷ piece 9 (0 ∷ []) ∷ []) [] []))
       unfolding clearOf checked
       clear-row n ns ks = step _ _ 9 (ap (λ (x : ℕ). not (eqb x 0)) (two-octets c 4)) (λ z. quiet (cleared st) _ (goes-cleared (getD c 1 0 % 16) st facts on))
 
       -- 01 PRM_RD, 02 PRM_WR
-      pub param-row : (writes : Bool) (right : ℕ → Bool) → ((x : ℕ) → right x ≡ givesOf x (rightOf writes (st .link))) → (x : ℕ) (ns : List ℕ) (ks : List Asked)
+      pub param-row : (writes : Bool) (right : ℕ → Bool) → ((x : ℕ) → right x ≡ givesOf x (rightOf writes (st .link))) → (x : ℕ) (ns : List ℕ) (ks : List Check)
           → J (parameterOf writes sheet (layoutFor h) st (named code c)) (checked s (paramChecks h s m c right)
           (row x ns ks [] (again c 4 6 ∷ dataPiece writes Parameter (cells (h .regions)) m c (param h s m c .address) (param h s m c .size) ∷ [])
           (written writes Parameter c (param h s m c .address) (param h s m c .size))))
       unfolding parameterOf parameterData checked
       param-row writes right same x ns ks =
-          let n = number c 4 2 in
+          let n = numberAt c 4 2 in
           let at : soughtParameter (parametersOf sheet (length (h .regions)) (length (h .parameters))) (le2At c 4) ≡ soughtParameter (map asParameter (h .parameters)) n =
           ap₂ soughtParameter (world .parameters) (two-octets c 4) in
           found-or _ 9 (λ b.
@@ -194,7 +192,7 @@ module _ (h : Sheet) (sheet : List ℕ) (st : LinkState) (m c : List ℕ) where
           (refusing 9))
 
       -- 0E CONNECT
-      pub connect-row : (n : ℕ) (ns : List ℕ) (ks : List Asked) → oneOf (link s) (1 ∷ []) ≡ true
+      pub connect-row : (n : ℕ) (ns : List ℕ) (ks : List Check) → oneOf (link s) (1 ∷ []) ≡ true
           → J (connectOf (layoutFor h) st (named code c)) (checked s (
           check (eqb (getD c 4 0) (h .version)) 9 4
           ∷ check (comMod (getD c 5 0)) 9 5
@@ -213,10 +211,10 @@ module _ (h : Sheet) (sheet : List ℕ) (st : LinkState) (m c : List ℕ) where
           doing Connects _ (connect-goes (getD c 1 0 % 16) st facts on (getD c 5 0) (getD c 6 0) three ok) connects-body (connects-keep c m ∙ unmoved)))))
 
       -- 1D MEM_RD, 1E MEM_WR
-      pub mem-row : (writes : Bool) (right : ℕ → Bool) → ((x : ℕ) → right x ≡ givesOf x (rightOf writes (st .link))) → (x : ℕ) (ns : List ℕ) (ks : List Asked)
+      pub mem-row : (writes : Bool) (right : ℕ → Bool) → ((x : ℕ) → right x ≡ givesOf x (rightOf writes (st .link))) → (x : ℕ) (ns : List ℕ) (ks : List Check)
           → J (memoryOf writes sheet (layoutFor h) st (named code c)) (checked s (memChecks h s m c right)
-          (row x ns ks [] (again c 5 11 ∷ dataPiece writes Memory (cells (h .regions)) m c (number c 8 4) (span h s m c) ∷ [])
-          (written writes Memory c (number c 8 4) (span h s m c))))
+          (row x ns ks [] (again c 5 11 ∷ dataPiece writes Memory (cells (h .regions)) m c (numberAt c 8 4) (span h s m c) ∷ [])
+          (written writes Memory c (numberAt c 8 4) (span h s m c))))
       unfolding memoryOf checked
       mem-row writes right same x ns ks =
           let el : elementOf (getD c 5 0) ≡ element (getD c 5 0) = elements (getD c 5 0) in
@@ -226,7 +224,7 @@ module _ (h : Sheet) (sheet : List ℕ) (st : LinkState) (m c : List ℕ) where
           step _ _ 9 (ap (ltb (h .l - 12)) sp ∙ less-not (h .l - 12) (span h s m c)) (λ d.
           via (ap (λ (rs : List Region). spanOf writes rs Memory (le4At c 8) (le2At c 6 * elementOf (getD c 5 0)) st) (world .regions))
           (via (ap₂ (λ (at n : ℕ). spanOf writes (map asRegion (h .regions)) Memory at n st) (four-octets c) sp)
-          (span-row writes Memory right (number c 8 4) (span h s m c) 8 same
+          (span-row writes Memory right (numberAt c 8 4) (span h s m c) 8 same
           (let q = leb-true 1 (span h s m c) b in let r = leb-true (span h s m c) (h .l - 12) d in omega arith) x ns ks)))))
 
       -- 03 ID_RD
@@ -238,18 +236,18 @@ module _ (h : Sheet) (sheet : List ℕ) (st : LinkState) (m c : List ℕ) where
           ap (λ (x : List ℕ). laidAt 8 x i (laidAt 4 (part c 4 4) i old)) (ap (λ (x : ℕ). part sheet (x + o) k) e ∙ world .items (getD c 4 0) .own f o k l)
           ∙ laid-two (again c 4 7) (piece 8 (take k (drop o (ident h s m c .octets)))) i old
 
-      pub item-row : (x : ℕ) (ns : List ℕ) (ks : List Asked)
+      pub item-row : (x : ℕ) (ns : List ℕ) (ks : List Check)
           → J (itemOf sheet (layoutFor h) st (named code c)) (checked s (
           check (oneOf (getD c 4 0) (map (λ (i : Ident). i .code) (h .items))) 9 4
-          ∷ check (leb 1 (number c 6 2)) 9 6
-          ∷ check (leb (getD c 5 0 + number c 6 2) (ident h s m c .length)) 9 6
-          ∷ check (leb (number c 6 2) (h .l - 8)) 9 6
+          ∷ check (leb 1 (numberAt c 6 2)) 9 6
+          ∷ check (leb (getD c 5 0 + numberAt c 6 2) (ident h s m c .length)) 9 6
+          ∷ check (leb (numberAt c 6 2) (h .l - 8)) 9 6
           ∷ []
-          ) (row x ns ks [] (again c 4 7 ∷ piece 8 (take (number c 6 2) (drop (getD c 5 0) (ident h s m c .octets))) ∷ []) []))
+          ) (row x ns ks [] (again c 4 7 ∷ piece 8 (take (numberAt c 6 2) (drop (getD c 5 0) (ident h s m c .octets))) ∷ []) []))
       unfolding itemOf itemData checked
       item-row x ns ks =
           let n = getD c 4 0 in
-          let k = number c 6 2 in
+          let k = numberAt c 6 2 in
           let o = getD c 5 0 in
           let size = ident h s m c .length in
           let w = world .items n in

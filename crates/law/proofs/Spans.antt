@@ -12,7 +12,7 @@ use Rattle.octets.specs.Pick.{pick}
 use Rattle.octets.proofs.Cases.{lt-or-le, eq-or-ne}
 use Rattle.law.specs.Words.{when}
 use Rattle.law.specs.Sheet.{Region as Area}
-use Rattle.law.specs.Memory.{Cell, run, cells, has, hasAll}
+use Rattle.law.specs.Memory.{Cell, cellsFrom, cells, has, hasAll}
 use Rattle.regions.specs.Region.{holdsOf, givesOf}
 use Rattle.regions.specs.Search.{grantsOf, beforeOf, spanHas}
 use Rattle.regions.specs.declared.Right.{Right}
@@ -45,7 +45,7 @@ inside-later start n a z =
     (lt-or-le a start)
 
 has-run : (q : ℕ → Bool) (start n rights : ℕ) (rest : List Cell) (a : ℕ)
-    → has q (run start n rights ++ rest) a ≡ when (inside start n a) (q rights) (has q rest a)
+    → has q (cellsFrom start n rights ++ rest) a ≡ when (inside start n a) (q rights) (has q rest a)
 unfolding has
 has-run q start zero rights rest a = sym (when-no _ _ (inside-none start a))
 has-run q start (suc n) rights rest a =

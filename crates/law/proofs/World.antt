@@ -49,11 +49,6 @@ pub record World (h : Sheet) (sheet m : List ℕ) : Type 0 where
   pub writes : (a n : ℕ) (o : List ℕ) → hasAll mapped (cells (h .regions)) a n ≡ true → length o ≡ n
       → putAt m (spanPlace (map asRegion (h .regions)) a) o ≡ stored (piece a o ∷ []) (cells (h .regions)) m
 
-pub held-length : (cs : List Cell) (m : List ℕ) (a n : ℕ) → length (held cs m a n) ≡ n
-unfolding held
-held-length cs m a zero = refl
-held-length cs m a (suc n) = ap suc (held-length cs m (suc a) n)
-
 pub mapped-is : (x : ℕ) → mapped x ≡ givesOf x Mapped
 unfolding givesOf
 mapped-is x = refl

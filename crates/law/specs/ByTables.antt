@@ -1,4 +1,5 @@
--- The theorem: for every sheet of octets, and whatever else is lent, what meets the promise of a call is what the tables say, to the octet, and nothing else.
+-- The theorem: for every sheet of octets, and whatever else is lent, what meets the promise of a call is what the tables say, to the octet, and nothing else;
+-- and by `Promises` it is a theorem about the code. That a lent `&[u8]` has only octets is in its type; of what else is lent not even that is asked.
 use Prim.Native.Nat.{ℕ}
 use mathlib.Core.List.{List, []}
 use mathlib.Core.Logic.{_⊎_, _↔_}
@@ -16,15 +17,17 @@ hostHas answer state memory reply = record { answer = answer; state = state; mem
 
 -- "Order: sheet, ..": the sheet is the writing of a well-formed one, and the call does what it does for that; or it has a first fault, and is refused
 abbrev pub ByLaw : List ℕ → (Sheet → Result → Type 0) → (ℕ → ℕ → Result) → Result → Type 0
-ByLaw sheet Good refusal x =
-    ((h : Sheet) × WellFormed h × (sheet ≡ sheetOctets h) × Good h x) ⊎ ((f : ℕ) × (place : ℕ) × FirstFault sheet f place × (x ≡ refusal f place))
+ByLaw sheet Does refusal x =
+    ((h : Sheet) × WellFormed h × (sheet ≡ sheetOctets h) × Does h x) ⊎ ((f : ℕ) × (place : ℕ) × FirstFault sheet f place × (x ≡ refusal f place))
 
 -- octets are the writing of one well-formed sheet, or have one first fault with one place, and never both; and a trace has one form
 pub record OneReading : Type 0 where
-  pub some-reading : (s : List ℕ) → Every IsOctet s → ((h : Sheet) × WellFormed h × (s ≡ sheetOctets h)) ⊎ ((f : ℕ) × (p : ℕ) × FirstFault s f p)
+  pub some-reading : (sheet : List ℕ) → Every IsOctet sheet
+      → ((h : Sheet) × WellFormed h × (sheet ≡ sheetOctets h)) ⊎ ((f : ℕ) × (place : ℕ) × FirstFault sheet f place)
   pub one-sheet : (a b : Sheet) → WellFormed a → WellFormed b → sheetOctets a ≡ sheetOctets b → a ≡ b
-  pub one-fault : (s : List ℕ) (f g p q : ℕ) → Every IsOctet s → FirstFault s f p → FirstFault s g q → (f ≡ g) × (p ≡ q)
-  pub never-both : (h : Sheet) (f p : ℕ) → WellFormed h → FirstFault (sheetOctets h) f p → ⊥
+  pub one-fault : (sheet : List ℕ) (f g place other : ℕ) → Every IsOctet sheet → FirstFault sheet f place → FirstFault sheet g other
+      → (f ≡ g) × (place ≡ other)
+  pub never-both : (h : Sheet) (f place : ℕ) → WellFormed h → FirstFault (sheetOctets h) f place → ⊥
   pub some-form : (l : ℕ) (trace : List ℕ) → FiveLengths l → (form : Form) × HasForm l trace form
   pub one-form : (l : ℕ) (trace : List ℕ) (a b : Form) → FiveLengths l → HasForm l trace a → HasForm l trace b → a ≡ b
 

@@ -43,13 +43,14 @@ enable h s =
     (when (not (eqb (link s) 0)) (result 6 0 s [] [])
     (result 0 0 (over (piece 1 (1 ∷ []) ∷ []) s) [] []))
 
--- an exchange that nothing refuses: the fate of its command, done
+-- an exchange with none of the refusals below, whose command may still get an alarm: the fate of its command, done
 abbrev pub done : Sheet → List ℕ → List ℕ → List ℕ → Fate → Result
 done h s m c f =
-    result 0 0 (stateAfter s (mn c) (f .state)) (stored (f .memory) (cells (h .regions)) m)
-    (replyFor h c (f .alarm) (stateAfter s (mn c) (f .state)) (f .body))
+    result 0 0 (stateAfter s (mn c) (f .changes)) (stored (f .stores) (cells (h .regions)) m)
+    (replyFor h c (f .alarm) (stateAfter s (mn c) (f .changes)) (f .body))
 
--- "1: state record ..", "2: memory length not the sum of the regions", "3: command length not L", "4: reply length not L", "5: exchange while Disabled"
+-- "1: state record ..", "2: memory length not the sum of the regions", "3: command length not L", "4: reply length not L", "5: exchange while Disabled"; of
+-- the state s, the memory m, the command c and the reply r that are lent
 unfoldable pub exchange : Sheet → List ℕ → List ℕ → List ℕ → List ℕ → Result
 exchange h s m c r =
     when (not (validState h s)) (result 1 0 s m r)

@@ -7,7 +7,7 @@ use lib.ListN.{replicate}
 use Rattle.law.specs.Words.{when, oneOf, octet, Piece, piece, over}
 use Rattle.law.specs.Sheet.{Sheet}
 use Rattle.law.specs.State.{link, mnKnown, lastMn, rsn, commandLatch, communicationLatch}
-use Rattle.law.specs.Table.{Asked, check, Row, table}
+use Rattle.law.specs.Table.{Check, check, Row, table}
 
 -- "Command: octet 0 code, octet 1 WDT (low half MN, high half SN), octets 2 and 3 control, ignored."
 abbrev pub mn : List ℕ → ℕ
@@ -16,20 +16,20 @@ mn c = octet c 1 % 16
 -- what becomes of a command: its alarm, 0 if accepted; what changes in the state record; the body; what is stored
 pub record Fate : Type 0 where
   pub alarm : ℕ
-  pub state : List Piece
+  pub changes : List Piece
   pub body : List Piece
-  pub memory : List Piece
+  pub stores : List Piece
 
 abbrev pub fate : ℕ → List Piece → List Piece → List Piece → Fate
-fate alarm state body memory = record { alarm = alarm; state = state; body = body; memory = memory }
+fate alarm changes body stores = record { alarm = alarm; changes = changes; body = body; stores = stores }
 
 -- "each of the last four stores its alarm in the command latch if that is 0"; "A refused command has a zero body."
 unfoldable pub refused : List ℕ → ℕ → Fate
 refused s alarm = fate alarm (when (eqb (commandLatch s) 0) (piece 8 (alarm ∷ []) ∷ []) []) [] []
 
 -- the first check that fails decides; where none does, the row is done
-unfoldable pub checked : List ℕ → List Asked → Row → Fate
-checked s [] r = fate 0 (r .state) (r .body) (r .memory)
+unfoldable pub checked : List ℕ → List Check → Row → Fate
+checked s [] r = fate 0 (r .changes) (r .body) (r .stores)
 checked s (k ∷ ks) r = when (k .holds) (checked s ks r) (refused s (k .alarm))
 
 -- "2. Unknown code: alarm 8. 3. Code not allowed in this link: alarm 12." Then "4. Data: alarm 9. 5. Rights over the whole span: alarm 10", as the row
@@ -55,23 +55,26 @@ fateOf h s m c =
 -- "An exchange that begins and ends in link 3 stores MN as known and adds 1 to RSN modulo 16, refused or not. .. On entry to link 3 MN is not known and
 -- RSN is 0; on leaving it those fields and dual become 0." `sent` is the command's MN
 unfoldable pub watched : ℕ → ℕ → List ℕ → ℕ → List Piece
-watched begins ends s sent =
-    when (eqb begins 3)
-    (when (eqb ends 3) (piece 5 (1 ∷ sent ∷ (rsn s + 1) % 16 ∷ []) ∷ []) (piece 3 (0 ∷ []) ∷ piece 5 (0 ∷ 0 ∷ 0 ∷ []) ∷ []))
-    (when (eqb ends 3) (piece 5 (0 ∷ 0 ∷ 0 ∷ []) ∷ []) [])
+watched linkBefore linkAfter s sent =
+    when (eqb linkBefore 3)
+    (when (eqb linkAfter 3) (piece 5 (1 ∷ sent ∷ (rsn s + 1) % 16 ∷ []) ∷ []) (piece 3 (0 ∷ []) ∷ piece 5 (0 ∷ 0 ∷ 0 ∷ []) ∷ []))
+    (when (eqb linkAfter 3) (piece 5 (0 ∷ 0 ∷ 0 ∷ []) ∷ []) [])
 
 -- the state record afterwards
 unfoldable pub stateAfter : List ℕ → ℕ → List Piece → List ℕ
 stateAfter s sent changes = over (watched (link s) (link (over changes s)) s sent) (over changes s)
 
 -- "Reply: octet 0 the code again, octet 1 RWDT, octets 2 and 3 status, then body"; t is the state record afterwards
-unfoldable pub replyFor : Sheet → List ℕ → ℕ → List ℕ → List Piece → List ℕ
-replyFor h c alarm t body =
+abbrev pub headFor : List ℕ → ℕ → List ℕ → List ℕ
+headFor c alarm t =
     -- "RWDT is 16 times the new RSN plus the command's MN if the link afterwards is 3, else 0."
     let rwdt = when (eqb (link t) 3) (16 * rsn t + mn c) 0 in
     -- "Status bit 0 is set if a latch is nonzero after the exchange; bit 2 is always set"
     let low = 4 + when (eqb (commandLatch t) 0 && eqb (communicationLatch t) 0) 0 1 in
     -- "bits 8 to 11 are this command's alarm, 0 if accepted; bits 12 to 15 the communication latch after the exchange; the rest 0"
     let high = alarm + 16 * communicationLatch t in
-    -- "Unnamed reply octets are zero"
-    over (piece 0 (octet c 0 ∷ rwdt ∷ low ∷ high ∷ []) ∷ body) (replicate (h .l) 0)
+    octet c 0 ∷ rwdt ∷ low ∷ high ∷ []
+
+-- "Unnamed reply octets are zero"
+unfoldable pub replyFor : Sheet → List ℕ → ℕ → List ℕ → List Piece → List ℕ
+replyFor h c alarm t body = over (piece 0 (headFor c alarm t) ∷ body) (replicate (h .l) 0)

@@ -84,16 +84,16 @@ AfterEnd nothing rest = ⊥
 AfterEnd (records h) rest = (getD rest 0 0 ≡ 0) × (2 ≤ length rest)
 
 -- the fault f of a sheet that is not too long, and its place: good records, and what stands behind them has the fault
-pub record FaultAt (s : List ℕ) (f place : ℕ) : Type 0 where
+pub record FaultAt (sheet : List ℕ) (f place : ℕ) : Type 0 where
   pub sofar : Sofar
   pub good : GoodSofar sofar
   pub rest : List ℕ
-  pub split : s ≡ before sofar rest
+  pub split : sheet ≡ before sofar rest
   -- "The place is the record's first octet, ..; where not even a kind octet is left .., it is the sheet's length. Octets after the end record are fault
   -- 13 at the first of them."
-  pub which : ((place + length rest ≡ length s) × RecordFault sofar rest f)
-      ⊎ (AfterEnd sofar rest × (f ≡ 13) × (place + length rest ≡ length s + 1))
+  pub which : ((place + length rest ≡ length sheet) × RecordFault sofar rest f)
+      ⊎ (AfterEnd sofar rest × (f ≡ 13) × (place + length rest ≡ length sheet + 1))
 
 -- "A sheet over 2,048 octets is fault 11 at place 0."
 abbrev pub FirstFault : List ℕ → ℕ → ℕ → Type 0
-FirstFault s f place = ((2048 < length s) × (f ≡ 11) × (place ≡ 0)) ⊎ ((length s ≤ 2048) × FaultAt s f place)
+FirstFault sheet f place = ((2048 < length sheet) × (f ≡ 11) × (place ≡ 0)) ⊎ ((length sheet ≤ 2048) × FaultAt sheet f place)

@@ -1,8 +1,11 @@
--- Document 01, and request 6 of document 02, as tables, each word before its use. They share no definition with the machine; Promises has what the calls
--- promise, by the machine's definitions, and ByTables says that this is what the tables say. A quotation is the paper's own words; where its table has columns, they are joined by a colon.
--- Not here, of these papers: "That the buffers are distinct", which is the host's duty; the eleven cases "On the
--- bench", which are computed from these tables (demands, LawBench); the lines that the bench program prints (station, bench; run by tests/programs); "Forms to
--- follow" and request 6's reader, which say how the code is to look (docs/FORMS.md); "Held to the definitions" (demands).
+-- Document 01, and request 6 of document 02, as tables, each word before its use. They share no definition with the machine, but the library's words for
+-- lists and numbers. Promises has what the calls promise, by the machine's definitions, and ByTables says that this is what the tables say. A quotation is
+-- the paper's own words, ".." standing for some left out; where its table has columns, they are joined by a colon.
+-- Not here, of these papers: what is the host's duty or the boundary's ("That the buffers are distinct", "never with a struct of the caller's layout"; kit);
+-- how the code is to look ("Forms to follow", "The record goes in whole ..", "For each octet of a span the regions are searched ..", "A reader that holds the
+-- trace .."; docs/FORMS.md), "no octet past 7 is looked at" among it; what is not built; the eleven cases "On the bench", which these tables compute
+-- (demands, LawBench), and the lines that the bench program prints (bench; tests/programs); "Slips we have seen" (must-fail); "Held to the definitions" and
+-- what request 6 says of demand 3 (demands).
 pub mod Words
 pub mod Sheet
 pub mod Faults

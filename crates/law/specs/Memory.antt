@@ -13,14 +13,14 @@ pub record Cell : Type 0 where
   pub rights : ℕ
 
 -- n of them, one address after another
-abbrev pub run : ℕ → ℕ → ℕ → List Cell
-run start zero rights = []
-run start (suc n) rights = record { address = start; rights = rights } ∷ run (suc start) n rights
+abbrev pub cellsFrom : ℕ → ℕ → ℕ → List Cell
+cellsFrom start zero rights = []
+cellsFrom start (suc n) rights = record { address = start; rights = rights } ∷ cellsFrom (suc start) n rights
 
 -- "Memory is the regions one after another in sheet order."
 abbrev pub cells : List Region → List Cell
 cells [] = []
-cells (r ∷ rs) = run (r .start) (r .length) (r .rights) ++ cells rs
+cells (r ∷ rs) = cellsFrom (r .start) (r .length) (r .rights) ++ cells rs
 
 -- "Rights: bit 0 read, bit 1 write in AsyncConnected, bit 2 write in SyncConnected"; the link is that before the exchange, and an octet that is in a
 -- region at all is mapped

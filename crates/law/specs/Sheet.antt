@@ -64,7 +64,7 @@ IsOctet x = x < 256
 pub record GoodRegion (r : Region) : Type 0 where
   pub start : r .start < 4294967296
   pub length : r .length < 4294967296
-  pub some : 1 ≤ r .length
+  pub least : 1 ≤ r .length
   pub ends : r .start + r .length ≤ 4294967296
   pub bits : r .rights ≤ 7
 
@@ -80,14 +80,14 @@ Spanned regions p = (a : ℕ) → p .address ≤ a → a < p .address + p .size 
 pub record GoodParameter (regions : List Region) (p : Parameter) : Type 0 where
   pub number : p .number < 65536
   pub address : p .address < 4294967296
-  pub some : 1 ≤ p .size
+  pub least : 1 ≤ p .size
   pub most : p .size ≤ 56
   pub spans : Spanned regions p
 
 -- "ID length 1 to 32, the octets past it zero"
 pub record GoodItem (i : Item) : Type 0 where
   pub code : IsOctet (i .code)
-  pub some : 1 ≤ i .length
+  pub least : 1 ≤ i .length
   pub most : i .length ≤ 32
   pub all32 : length (i .octets) ≡ 32
   pub octets : Every IsOctet (i .octets)

@@ -33,8 +33,8 @@ commandLatch s = octet s 8
 abbrev pub communicationLatch : List ℕ → ℕ
 communicationLatch s = octet s 9
 
-abbrev pub clauses : Sheet → List ℕ → List Bool
-clauses h s =
+abbrev pub validWhen : Sheet → List ℕ → List Bool
+validWhen h s =
     eqb (length s) 10
     -- "kind 11 hex"; links 0 to 3; "L is the sheet's"
     ∷ eqb (octet s 0) 0x11
@@ -62,4 +62,4 @@ clauses h s =
     ∷ []
 
 unfoldable pub validState : Sheet → List ℕ → Bool
-validState h s = all (clauses h s)
+validState h s = all (validWhen h s)

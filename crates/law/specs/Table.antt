@@ -4,32 +4,32 @@ use mathlib.Core.Bool.{Bool, _&&_}
 use mathlib.Core.List.{List, [], _∷_, map}
 use lib.Dec.{eqb, leb}
 use lib.ListN.{take, drop}
-use Rattle.law.specs.Words.{when, implies, oneOf, number, octet, bit, Piece, piece}
+use Rattle.law.specs.Words.{when, implies, oneOf, numberAt, octet, bit, Piece, piece}
 use Rattle.law.specs.Sheet.{Parameter, Item, Sheet}
 use Rattle.law.specs.State.{link, commandLatch, communicationLatch}
 use Rattle.law.specs.Memory.{cells, mapped, readable, writable, hasAll, held}
 
--- a check: whether it holds, its alarm, and the octet of the command at which its field begins, 0 where no field is at fault; the octet is for request 3,
--- and nothing asks it yet
-pub record Asked : Type 0 where
+-- a check: whether it holds, its alarm, and for alarms 8, 9 and 12 the octet of the command at which its field begins, 0 where no field is at fault; the
+-- octet is for request 3, and nothing asks it yet
+pub record Check : Type 0 where
   pub holds : Bool
   pub alarm : ℕ
   pub field : ℕ
 
-abbrev pub check : Bool → ℕ → ℕ → Asked
+abbrev pub check : Bool → ℕ → ℕ → Check
 check holds alarm field = record { holds = holds; alarm = alarm; field = field }
 
 -- a row: the code, the links that allow it, its checks in order; if all hold, what changes in the state record, what the body has, what is stored
 pub record Row : Type 0 where
   pub code : ℕ
   pub links : List ℕ
-  pub checks : List Asked
-  pub state : List Piece
+  pub checks : List Check
+  pub changes : List Piece
   pub body : List Piece
-  pub memory : List Piece
+  pub stores : List Piece
 
-abbrev pub row : ℕ → List ℕ → List Asked → List Piece → List Piece → List Piece → Row
-row code links checks state body memory = record { code = code; links = links; checks = checks; state = state; body = body; memory = memory }
+abbrev pub row : ℕ → List ℕ → List Check → List Piece → List Piece → List Piece → Row
+row code links checks changes body stores = record { code = code; links = links; checks = checks; changes = changes; body = body; stores = stores }
 
 -- the sheet's parameter of a number and ID item of a code; where there is none, one of zeros, and the row's first check refuses
 unfoldable pub parameterOf : List Parameter → ℕ → Parameter
@@ -45,8 +45,8 @@ abbrev pub again : List ℕ → ℕ → ℕ → Piece
 again c from to = piece from (take (to + 1 - from) (drop from c))
 
 -- octet 5 of the memory commands: elements of 1, 2 or 4 octets, 0 where it is none of these. Document 01 has 1 in the high half and 1, 2 or 3 in the low
--- half, but "002 decides": it fills the low half with data_type, described as the kind of memory (1 volatile), and the high half with mode, described as
--- the data type (1, 2, 3); we go by the descriptions, so the low half is 1 and the high half 1, 2 or 3
+-- half, but "002 decides" (4.3.3.13, 4.3.3.14, 5.2.3): it fills the low half with data_type, described as the kind of memory (1 volatile), and the high half
+-- with mode, described as the data type (1, 2, 3); we go by the descriptions, so the low half is 1 and the high half 1, 2 or 3
 abbrev pub element : ℕ → ℕ
 element x = when (eqb x 0x11) 1 (when (eqb x 0x21) 2 (when (eqb x 0x31) 4 0))
 
@@ -58,13 +58,13 @@ comMod x = oneOf x (0 ∷ 2 ∷ 6 ∷ [])
 -- the rows for a sheet h, a state record s, a memory m and a command c
 module _ (h : Sheet) (s m c : List ℕ) where
   abbrev pub parameter : Parameter
-  parameter = parameterOf (h .parameters) (number c 4 2)
+  parameter = parameterOf (h .parameters) (numberAt c 4 2)
 
   -- 01 and 02: "4-5 number in sheet; 6 size equal to its size and at most L - 8; span mapped", then "Rights over the whole span: alarm 10". Of a
   -- well-formed sheet every parameter's span is mapped, so the fourth check holds there
-  abbrev pub parameterChecks : (ℕ → Bool) → List Asked
+  abbrev pub parameterChecks : (ℕ → Bool) → List Check
   parameterChecks right =
-      check (oneOf (number c 4 2) (map (λ (p : Parameter). p .number) (h .parameters))) 9 4
+      check (oneOf (numberAt c 4 2) (map (λ (p : Parameter). p .number) (h .parameters))) 9 4
       ∷ check (eqb (octet c 6) (parameter .size)) 9 6
       ∷ check (leb (octet c 6) (h .l - 8)) 9 6
       ∷ check (hasAll mapped (cells (h .regions)) (parameter .address) (parameter .size)) 9 4
@@ -76,17 +76,17 @@ module _ (h : Sheet) (s m c : List ℕ) where
 
   -- "n = count times element"
   abbrev pub n : ℕ
-  n = number c 6 2 * element (octet c 5)
+  n = numberAt c 6 2 * element (octet c 5)
 
   -- 1D and 1E: octet 5; "6-7 count; n .. 1 to L - 12; 8-11 address, all n octets in regions", then rights. At L 8, L - 12 counts as 0: "alarm 9 at the
   -- count at the latest"
-  abbrev pub memoryChecks : (ℕ → Bool) → List Asked
+  abbrev pub memoryChecks : (ℕ → Bool) → List Check
   memoryChecks right =
       check (leb 1 (element (octet c 5))) 9 5
       ∷ check (leb 1 n) 9 6
       ∷ check (leb n (h .l - 12)) 9 6
-      ∷ check (hasAll mapped (cells (h .regions)) (number c 8 4) n) 9 8
-      ∷ check (hasAll right (cells (h .regions)) (number c 8 4) n) 10 0
+      ∷ check (hasAll mapped (cells (h .regions)) (numberAt c 8 4) n) 9 8
+      ∷ check (hasAll right (cells (h .regions)) (numberAt c 8 4) n) 10 0
       ∷ []
 
   -- "Disconnected allows NOP, CONNECT, DISCONNECT. CONNECT is allowed nowhere else. SYNC_SET needs link 2. All others are allowed in links 2 and 3."
@@ -104,16 +104,16 @@ module _ (h : Sheet) (s m c : List ℕ) where
       -- ID_RD: "4 code in sheet; 5 offset; 6-7 size at least 1, offset + size within the item, size at most L - 8"; "4 to 7 again, data from 8"
       ∷ row 0x03 (2 ∷ 3 ∷ [])
       (check (oneOf (octet c 4) (map (λ (i : Item). i .code) (h .items))) 9 4
-      ∷ check (leb 1 (number c 6 2)) 9 6
-      ∷ check (leb (octet c 5 + number c 6 2) (item .length)) 9 6
-      ∷ check (leb (number c 6 2) (h .l - 8)) 9 6
+      ∷ check (leb 1 (numberAt c 6 2)) 9 6
+      ∷ check (leb (octet c 5 + numberAt c 6 2) (item .length)) 9 6
+      ∷ check (leb (numberAt c 6 2) (h .l - 8)) 9 6
       ∷ [])
-      [] (again c 4 7 ∷ piece 8 (take (number c 6 2) (drop (octet c 5) (item .octets))) ∷ []) []
+      [] (again c 4 7 ∷ piece 8 (take (numberAt c 6 2) (drop (octet c 5) (item .octets))) ∷ []) []
       -- ALM_RD: "L at least 16; 4-5 zero"; "old command latch at 8, old communication latch at 9"
-      ∷ row 0x05 (2 ∷ 3 ∷ []) (check (leb 16 (h .l)) 9 0 ∷ check (eqb (number c 4 2) 0) 9 4 ∷ [])
+      ∷ row 0x05 (2 ∷ 3 ∷ []) (check (leb 16 (h .l)) 9 0 ∷ check (eqb (numberAt c 4 2) 0) 9 4 ∷ [])
       [] (piece 8 (commandLatch s ∷ communicationLatch s ∷ []) ∷ []) []
       -- ALM_CLR: "4-5 zero"; "both latches 0"
-      ∷ row 0x06 (2 ∷ 3 ∷ []) (check (eqb (number c 4 2) 0) 9 4 ∷ []) (piece 8 (0 ∷ []) ∷ piece 9 (0 ∷ []) ∷ []) [] []
+      ∷ row 0x06 (2 ∷ 3 ∷ []) (check (eqb (numberAt c 4 2) 0) 9 4 ∷ []) (piece 8 (0 ∷ []) ∷ piece 9 (0 ∷ []) ∷ []) [] []
       -- SYNC_SET: "link 3, single transfer"
       ∷ row 0x0D (2 ∷ []) [] (piece 1 (3 ∷ []) ∷ piece 3 (0 ∷ []) ∷ []) [] []
       -- CONNECT: "4 version of the sheet; 5 com_mod; 6 com_time at least 1; 7 profile of the sheet"; "com_time is at least 2 with transfer 1";
@@ -129,7 +129,7 @@ module _ (h : Sheet) (s m c : List ℕ) where
       ∷ row 0x0F (1 ∷ 2 ∷ 3 ∷ []) [] (piece 1 (1 ∷ []) ∷ piece 4 (0 ∷ []) ∷ []) [] []
       -- MEM_RD, MEM_WR: "5 to 11 again, the n octets from 12"
       ∷ row 0x1D (2 ∷ 3 ∷ []) (memoryChecks readable)
-      [] (again c 5 11 ∷ piece 12 (held (cells (h .regions)) m (number c 8 4) n) ∷ []) []
+      [] (again c 5 11 ∷ piece 12 (held (cells (h .regions)) m (numberAt c 8 4) n) ∷ []) []
       ∷ row 0x1E (2 ∷ 3 ∷ []) (memoryChecks (writable (link s)))
-      [] (again c 5 11 ∷ piece 12 (take n (drop 12 c)) ∷ []) (piece (number c 8 4) (take n (drop 12 c)) ∷ [])
+      [] (again c 5 11 ∷ piece 12 (take n (drop 12 c)) ∷ []) (piece (numberAt c 8 4) (take n (drop 12 c)) ∷ [])
       ∷ []

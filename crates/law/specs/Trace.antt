@@ -69,7 +69,7 @@ playedForm h s m (wholeRecords ts) = played h 0 s m ts
 playedForm h s m (fault f place) = result f place s m []
 
 -- "Refusals: document 01's sheet, state, memory and Disabled refusals first"; then 35, a refusal of our own, for a trace over 2^30 - 1 octets: up
--- to there every place fits an answer; then those of the form
+-- to there every place fits an answer, and of a longer trace neither 31 to 33 nor a difference is told; then those of the form
 unfoldable pub replay : Sheet → List ℕ → List ℕ → List ℕ → Form → Result
 replay h s m trace form =
     when (not (validState h s)) (result 1 0 s m [])

@@ -69,9 +69,9 @@ abbrev pub inOctets : ℕ → ℕ → List ℕ
 inOctets zero n = []
 inOctets (suc k) n = n % 256 ∷ inOctets k (n / 256)
 
-abbrev pub number : List ℕ → ℕ → ℕ → ℕ
-number c from zero = 0
-number c from (suc k) = getD c from 0 + 256 * number c (suc from) k
+abbrev pub numberAt : List ℕ → ℕ → ℕ → ℕ
+numberAt c from zero = 0
+numberAt c from (suc k) = getD c from 0 + 256 * numberAt c (suc from) k
 
 -- one octet, and whether bit k is set in a number
 abbrev pub octet : List ℕ → ℕ → ℕ

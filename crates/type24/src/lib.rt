@@ -1,5 +1,5 @@
 // The slave's calls for C hosts: numbers and byte slices alone cross this boundary, and every call checks every lent length itself.
-// An answer is one number, document 01's number + 2^32 × place.
+// An answer is one number: document 01's, or for a replay document 02's or our own, + 2^32 × place; of `t24_lengths` it is L + 2^32 × the memory's length.
 use sheet::walk::Verdict;
 use slave::answers::Answer;
 ghost use mathlib.Core.Path.{_≡_};
