@@ -3,7 +3,7 @@ use mathlib.Core.Bool.{true, false, not}
 use mathlib.Core.Logic.{⊎-elim}
 use mathlib.Core.Path.{_≡_, refl, sym, ap, _∙_}
 use mathlib.Core.List.{List, []}
-use Prim.Native.Nat.{ℕ, _≤_}
+use Prim.Native.Nat.{ℕ, _≤_, _<_}
 use native.Mathlib.Omega.{arith}
 use borrow.Author.Tests.{eqb-true, not-false}
 use lib.Dec.{eqb}
@@ -27,7 +27,7 @@ use Rattle.sheet.specs.declared.walk.Verdict.{Verdict}
 use Rattle.sheet.specs.declared.walk.Verdict.the-variants.{Valid, Faulty}
 use Rattle.slave.specs.Answers.{sheetAnswer, onSheet, onState}
 use Rattle.slave.specs.Calls.{After, resetOf, enableOf}
-use Rattle.slave.specs.Exchange.{Left, exchanged, exchangeOf}
+use Rattle.slave.specs.Exchange.{Left, refusalOf, exchanged, exchangeOf}
 use Rattle.slave.specs.declared.answers.Answer.{Answer}
 use Rattle.slave.proofs.Order.{no-refusal}
 use Rattle.demands.specs.Sequences.{beside}
@@ -82,16 +82,33 @@ module _ (sheet state memory : List ℕ) where
       by-state (Untold state memory reply) (stateOf state (lay .l)) _ _ (λ n. (refl, refl, refl))
       (λ st h. pick-both (Untold state memory reply) _ (λ n. (refl, refl, refl)) (λ n. absurd (n refl))))
 
--- a fault's number is not 0
-fault-counts : (fault : Fault) (place : ℕ) → sheetAnswer (Faulty fault place) .number ≡ 0 → ⊥
+-- a fault's number is one of 11 to 17
+fault-number : (fault : Fault) (place : ℕ) → (11 ≤ sheetAnswer (Faulty fault place) .number) × (sheetAnswer (Faulty fault place) .number ≤ 17)
 unfolding sheetAnswer numberOf
-fault-counts Ended place e = omega arith
-fault-counts Unknown place e = omega arith
-fault-counts Misplaced place e = omega arith
-fault-counts Range place e = omega arith
-fault-counts Disorder place e = omega arith
-fault-counts Excess place e = omega arith
-fault-counts Unmapped place e = omega arith
+fault-number Ended place = omega arith
+fault-number Unknown place = omega arith
+fault-number Misplaced place = omega arith
+fault-number Range place = omega arith
+fault-number Disorder place = omega arith
+fault-number Excess place = omega arith
+fault-number Unmapped place = omega arith
+
+fault-counts : (fault : Fault) (place : ℕ) → sheetAnswer (Faulty fault place) .number ≡ 0 → ⊥
+fault-counts fault place e = let n = fault-number fault place in omega arith
+
+-- and so every number that an exchange tells fits 32 bits
+refusal-small : (lay : Layout) (st : LinkState) (m c r : ℕ) → refusalOf lay st m c r < 4294967296
+unfolding refusalOf
+refusal-small lay st m c r =
+    let P : ℕ → Type 0 = λ n. n < 4294967296 in
+    pick-both P _ (omega arith) (pick-both P _ (omega arith) (pick-both P _ (omega arith) (pick-both P _ (omega arith) (omega arith))))
+
+pub exchange-small : (sheet state memory command reply : List ℕ) → exchangeOf sheet state memory command reply .answer .number < 4294967296
+unfolding exchangeOf exchanged
+exchange-small sheet state memory command reply =
+    let P : Left → Type 0 = λ l. l .answer .number < 4294967296 in
+    by-sheet P (verdictOf sheet) _ _ (λ fault place. omega (arith, fault-number fault place))
+    (λ lay v. by-state P (stateOf state (lay .l)) _ _ (omega arith) (λ st h. pick-both P _ (refusal-small lay st _ _ _) (omega arith)))
 
 -- a state that the machine reads beside the sheet
 abbrev pub Held : List ℕ → List ℕ → Type 0
