@@ -2,7 +2,7 @@
 use mathlib.Core.Bool.{Bool, true, and-eq-true-iff, _&&_}
 use mathlib.Core.Path.{_≡_, refl, sym, ap, ap₂}
 use mathlib.Core.List.{List, [], _∷_, map}
-use Prim.Native.Nat.{ℕ, _+_, _*_, _<_}
+use Prim.Native.Nat.{ℕ, _<_}
 use native.Mathlib.Omega.{arith}
 use borrow.Author.Tests.{ltb-true}
 use lib.Dec.{ltb}
@@ -51,29 +51,18 @@ all-octets (x ∷ s) e =
     let p = and-eq-true-iff (ltb x 256) (octets s) .0 e in
     (ltb-true x 256 (p .0), all-octets s (p .1))
 
-abbrev Comes : Case → Type 0
-Comes k = ran k ≡ k .want
-
 abbrev Law : Case → Type 0
 Law k =
     ByLaw (k .sheet) (λ h x. x ≡ exchange h (k .state) (k .memory) (k .command) old) (λ f place. result f place (k .state) (k .memory) old) (wanted (k .want))
 
-each : (ks : List Case) → all (map fits ks) ≡ true → Every Law ks → Every Comes ks
-each [] e l = tt
+each : (ks : List Case) → all (map fits ks) ≡ true → Every Law ks → map ran ks ≡ map (λ (k : Case). k .want) ks
+each [] e l = refl
 each (k ∷ ks) e l =
     let p = and-eq-true-iff (fits k) (all (map fits ks)) .0 e in
-    let q = and-eq-true-iff (octets (k .sheet)) (ltb (k .want .answer .number) 4294967296) .0 (p .0) in (
-      by-law (k .sheet) (k .state) (k .memory) (k .command) old (k .want) (all-octets (k .sheet) (q .0)) (ltb-true _ 4294967296 (q .1)) (l .0),
-      each ks (p .1) (l .1),
-    )
-
--- every case, one by one
-pub each-comes : Every Comes cases
-each-comes = each cases refl bench-by-law
-
-in-a-row : (ks : List Case) → Every Comes ks → map ran ks ≡ map (λ (k : Case). k .want) ks
-in-a-row [] c = refl
-in-a-row (k ∷ ks) c = ap₂ _∷_ (c .0) (in-a-row ks (c .1))
+    let q = and-eq-true-iff (octets (k .sheet)) (ltb (k .want .answer .number) 4294967296) .0 (p .0) in
+    ap₂ _∷_
+    (by-law (k .sheet) (k .state) (k .memory) (k .command) old (k .want) (all-octets (k .sheet) (q .0)) (ltb-true _ 4294967296 (q .1)) (l .0))
+    (each ks (p .1) (l .1))
 
 pub bench-cases : BenchCases
-bench-cases = in-a-row cases each-comes
+bench-cases = each cases refl bench-by-law

@@ -82,7 +82,7 @@ module _ (sheet state memory : List ℕ) where
       by-state (Untold state memory reply) (stateOf state (lay .l)) _ _ (λ n. (refl, refl, refl))
       (λ st h. pick-both (Untold state memory reply) _ (λ n. (refl, refl, refl)) (λ n. absurd (n refl))))
 
--- a fault's number is one of 11 to 17
+-- a fault's number is one of 11 to 17, and so not 0
 fault-number : (fault : Fault) (place : ℕ) → (11 ≤ sheetAnswer (Faulty fault place) .number) × (sheetAnswer (Faulty fault place) .number ≤ 17)
 unfolding sheetAnswer numberOf
 fault-number Ended place = omega arith
@@ -96,7 +96,7 @@ fault-number Unmapped place = omega arith
 fault-counts : (fault : Fault) (place : ℕ) → sheetAnswer (Faulty fault place) .number ≡ 0 → ⊥
 fault-counts fault place e = let n = fault-number fault place in omega arith
 
--- and so every number that an exchange tells fits 32 bits
+-- every number that an exchange tells fits 32 bits
 refusal-small : (lay : Layout) (st : LinkState) (m c r : ℕ) → refusalOf lay st m c r < 4294967296
 unfolding refusalOf
 refusal-small lay st m c r =
