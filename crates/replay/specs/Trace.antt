@@ -32,6 +32,13 @@ unfoldable pub recordAt : ℕ → List ℕ → ℕ → Record
 recordAt l trace at =
     pick (leb (length trace) at) End (pick (eqb (faultOf l (drop at trace)) 0) Whole (Bad (faultOf l (drop at trace))))
 
+-- the command and the reply of the record at a place
+unfoldable pub commandAt : ℕ → List ℕ → ℕ → List ℕ
+commandAt l trace at = part (drop at trace) 1 l
+
+unfoldable pub replyAt : ℕ → List ℕ → ℕ → List ℕ
+replyAt l trace at = part (drop at trace) (1 + l) l
+
 -- what one record's form leads to: the end, the next record, or its fault with its place
 unfoldable pub formed : Record → ℕ → Answer → Answer
 formed End place next = told 0 0

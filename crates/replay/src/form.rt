@@ -1,7 +1,8 @@
 // The form of a trace's records: the work of the reader, on a slice and a place.
 ghost use mathlib.Core.Path.{_≡_};
-ghost use lib.ListN.{drop};
-ghost use Rattle.replay.specs.Trace.{kindLength, faultOf, recordAt};
+ghost use Prim.Native.Nat.{_+_, _≤_};
+ghost use lib.ListN.{length, drop};
+ghost use Rattle.replay.specs.Trace.{kindLength, recordSize, faultOf, recordAt, commandAt, replyAt};
 
 // What stands at a place of a trace: nothing any more, a whole record, or a fault's number.
 pub enum Record {
@@ -57,4 +58,32 @@ pub fn record_of(trace: &[u8], at: usize, l: u8) -> Record
         return Record::Whole;
     }
     Record::Bad(fault)
+}
+
+// The command of the whole record at a place: the L octets behind its kind.
+pub fn command_of<'a>(trace: &'a [u8], at: usize, l: u8) -> &'a [u8]
+    requires { ⌜ at + recordSize l ≤ length (now trace) ⌝ }
+    ensures { λ r. ⌜ now r ≡ commandAt l (now (trace .entry)) at ⌝ }
+{
+    let from = at + 1;
+    let to = from + l as usize;
+    &trace[from..to]
+}
+
+// The reply of the whole record at a place: the L octets behind its command.
+pub fn reply_of<'a>(trace: &'a [u8], at: usize, l: u8) -> &'a [u8]
+    requires { ⌜ at + recordSize l ≤ length (now trace) ⌝ }
+    ensures { λ r. ⌜ now r ≡ replyAt l (now (trace .entry)) at ⌝ }
+{
+    let from = at + 1 + l as usize;
+    let to = from + l as usize;
+    &trace[from..to]
+}
+
+// The place behind a record.
+pub fn behind_of(at: usize, l: u8) -> usize
+    requires { ⌜ at ≤ 1073741823 ⌝ }
+    ensures { λ r. ⌜ r ≡ at + recordSize l ⌝ }
+{
+    at + 1 + 2 * (l as usize)
 }
