@@ -1,5 +1,6 @@
 -- The laws of the replay.
 pub mod Faults
 pub mod Forms
+pub mod Handed
 pub mod Steps
 pub mod Plays
