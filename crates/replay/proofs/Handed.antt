@@ -3,6 +3,7 @@
 --     OfPlain, OfReader       the triples that they make
 --     hands                   a function that takes its reader apart, and calls `callee` on the slice, the place and L, meets the second if
 --                             `callee` meets the first: a walk of its MIR, by hand
+-- The signatures are read off `command_of` and `command`; those of the other part are the same.
 -- The struct is Copy: what it owns is had twice, one copy is kept whole for the exit, and of the other what the trace owns goes to the
 -- callee, beside the lifetime's token, which comes back.
 -- What a number owns is not carried: it is made anew for the callee and at exit.

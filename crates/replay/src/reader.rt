@@ -83,7 +83,7 @@ pub fn reply_at<'a>(trace: &'a [u8], at: usize, l: u8) -> &'a [u8]
     reply(open(trace, at), l)
 }
 
-// The place of a reader that was moved behind the record at its place.
+// The place behind the record at a place: that of a reader opened there and moved.
 pub fn behind(trace: &[u8], at: usize, l: u8) -> usize
     requires { ⌜ at ≤ 1073741823 ⌝ }
     ensures { λ r. ⌜ r ≡ at + recordSize l ⌝ }
