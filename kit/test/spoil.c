@@ -1,7 +1,7 @@
 /*
  * Stands between the test and the library and spoils one thing at a time, as
  * the variable SPOIL says, so that it shows whether the test notices; between
- * compare and the library for peer/valgrind.
+ * compare and the library for peer/valgrind and peer/sanitized.
  * Linked with --wrap for each of the six calls.
  */
 #include "type24.h"
