@@ -206,6 +206,17 @@ fn play_all(fd: i32, sheet: &[u8], state: &mut [u8], memory: &mut [u8], l: u8) -
     pass
 }
 
+// What is told where no record differs; a trace without a record agrees with anything, and that is no verdict.
+fn print_agreement(count: u64) {
+    if count == 0 {
+        words::print(b"nothing to replay: the trace has no record\n");
+        return;
+    }
+    words::print(b"all agree: ");
+    words::print_number(count);
+    words::print(b" records\n");
+}
+
 // The exchanges of the trace, whose file is opened once more, and what came of them. A pipe gives its octets once only, so they are counted again.
 pub fn play(sheet: &[u8], state: &mut [u8], memory: &mut [u8], l: u8, octets: u64) {
     let fd = files::open(4, b"trace.bin");
@@ -221,7 +232,5 @@ pub fn play(sheet: &[u8], state: &mut [u8], memory: &mut [u8], l: u8, octets: u6
         files::print_line(4, b"trace.bin", b": changed while it was read\n");
         return;
     }
-    words::print(b"all agree: ");
-    words::print_number(pass.count);
-    words::print(b" records\n");
+    print_agreement(pass.count);
 }
