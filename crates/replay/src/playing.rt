@@ -23,11 +23,12 @@ fn play(
     requires { ⌜ (verdictOf (now sheet) ≡ Valid layout) × (length (now memory) ≡ layout .memory) × (length (now room) ≡ layout .l) × (length (now trace) ≤ 1073741823) × ((n : ℕ) × (length (now trace) ≡ n * recordSize (layout .l))) ⌝ }
     ensures { λ r. ⌜ replayed r (now (state .exit)) (now (memory .exit)) ≡ playOf (now (sheet .entry)) (layout .l) 0 (now (state .entry)) (now (memory .entry)) (tracedOf (layout .l) (now (trace .entry))) ⌝ }
 {
-    let size = 1 + 2 * (layout.l as usize);
     let mut k: u32 = 0;
     let mut at: usize = 0;
     while at < trace.len() {
-        let d = crate::step::one(sheet, layout, state, memory, trace, at, room);
+        let command = crate::reader::command_at(trace, at, layout.l);
+        let theirs = crate::reader::reply_at(trace, at, layout.l);
+        let d = crate::step::one(sheet, layout, state, memory, command, theirs, room);
         if d < layout.l {
             return Answer {
                 number: crate::numbers::DIFFERS,
@@ -35,7 +36,7 @@ fn play(
             };
         }
         k += 1;
-        at += size;
+        at = crate::reader::behind(trace, at, layout.l);
     }
     Answer {
         number: 0,

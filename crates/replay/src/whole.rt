@@ -22,7 +22,6 @@ fn form(trace: &[u8], l: u8) -> Answer
     requires { ⌜ length (now trace) ≤ 1073741823 ⌝ }
     ensures { λ r. ⌜ r ≡ formOf l (now (trace .entry)) ⌝ }
 {
-    let size = 1 + 2 * (l as usize);
     let mut at: usize = 0;
     while at < trace.len() {
         let fault = fault_in(crate::reader::record_at(trace, at, l));
@@ -32,7 +31,7 @@ fn form(trace: &[u8], l: u8) -> Answer
                 place: at as u32,
             };
         }
-        at += size;
+        at = crate::reader::behind(trace, at, l);
     }
     slave::answers::plain(0)
 }
