@@ -6,4 +6,5 @@ pub mod Turns
 pub mod Spans
 pub mod Passed
 pub mod Passing
+pub mod Kept
 pub mod Places

@@ -1,7 +1,7 @@
 -- The search of a span over regions that are ordered and apart: what stands behind it at an address and a region.
---     passing-first    it begins behind the regions that end at or before the span
+--     passing-start    it begins before all regions
+--     passing-first    or behind those that end at or before the span
 --     passing-jump     a region that has the octet and gives the right is passed to its end
---     passing-next     or by one octet, and the search goes on from that region
 --     passing-on       a region that has the octet not is passed
 --     passing-ends     where it comes to the span's end, no octet lacks the right
 --     passing-lacks    where it stops before, as many octets come before as were passed
@@ -39,6 +39,14 @@ pub record Passing (f : ℕ → Region) (n : ℕ) (w : Right) (a to i : ℕ) : T
   pub decides : grantsOf (listed f 0 n) w to ≡ grantsOf (listed f i (n - i)) w to
 
 module _ (f : ℕ → Region) (n : ℕ) (w : Right) (a : ℕ) where
+  pub passing-start : Passing f n w a a 0
+  passing-start = record {
+    from = omega arith;
+    within = omega arith;
+    granted = λ x l u. absurd (let z : ⊥ = omega arith in z);
+    decides = grants-from f n 0 (omega arith) w a (λ j l. absurd (let z : ⊥ = omega arith in z));
+  }
+
   pub passing-first : Passing f n w a a (passedOf (listed f 0 n) a)
   passing-first = record {
     from = omega arith;
@@ -55,23 +63,6 @@ module _ (f : ℕ → Region) (n : ℕ) (w : Right) (a : ℕ) where
         within = omega arith;
         granted = p .granted;
         decides = p .decides ∙ grants-past f i n r e h w to t;
-      }
-
-      pub passing-next : Apart 0 (listed f 0 n) → holdsOf r to ≡ true → givesOf (r .rights) w ≡ true → Passing f n w a (to + 1) i
-      passing-next d t g = record {
-        from = let l = p .from in omega arith;
-        within = p .within;
-        granted = λ x l u.
-            ⊎-elim
-            (λ (k : x < to). p .granted x l k)
-            (λ (k : to ≤ x).
-            subst (λ (y : ℕ). grantsOf (listed f 0 n) w y ≡ true) (let q : to ≡ x = omega arith in q) (p .decides ∙ grants-here f i n r e h w to t ∙ g))
-            (lt-or-le x to);
-        decides = grants-from f n i (p .within) w (to + 1)
-            (λ j l.
-            let s = subst (λ (q : Region). q .start ≤ to) e (holds-bounds r to t .0) in
-            let u = apart-rises f 0 n 0 d j i (omega arith) l (omega arith) in
-            omega arith);
       }
 
       pub passing-jump : Apart 0 (listed f 0 n) → holdsOf r to ≡ true → givesOf (r .rights) w ≡ true → Passing f n w a (r .start + r .length) (i + 1)

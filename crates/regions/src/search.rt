@@ -1,10 +1,11 @@
 // What is found in the regions of a sheet.
+use crate::Region;
 use crate::Right;
 ghost use mathlib.Core.Path.{_≡_};
 ghost use lib.Dec.{ltb};
 ghost use Rattle.octets.specs.Pick.{pick};
 ghost use Rattle.regions.specs.Apart.{Laid};
-ghost use Rattle.regions.specs.Passed.{passedOf};
+ghost use Rattle.regions.specs.Passed.{passedOf, deniesOf};
 ghost use Rattle.regions.specs.Region.{regionsOf};
 ghost use Rattle.regions.specs.Search.{spotOf, beforeOf, spanHas};
 ghost use Rattle.regions.specs.declared.Right.the-variants.{Mapped};
@@ -81,29 +82,46 @@ pub fn covers(sheet: &[u8], regions: u8, address: u32, size: u8) -> bool
     end <= to
 }
 
+// Whether a region tells that the octet at an address lacks the right: it ends behind the octet, and starts behind it or does not give the right.
+fn denies(region: Region, right: Right, address: u64) -> bool
+    ensures { λ r. ⌜ r ≡ deniesOf region right address ⌝ }
+{
+    if region.start as u64 + region.length as u64 <= address {
+        return false;
+    }
+    if address < region.start as u64 {
+        return true;
+    }
+    !crate::gives(region.rights, right)
+}
+
 // How many octets of a span come before the first that lacks the right: octets outside, one at a time, regions inside, left by the label. Regions rise,
-// so the search for an octet goes on from the region where the last one was found.
+// so the end of the region that the last octet was found in stays at hand, and the search goes on behind it at the first octet that it does not have.
 pub fn before(sheet: &[u8], regions: u8, right: Right, address: u32, size: u8) -> u8
     requires { ⌜ Laid (now sheet) regions ⌝ }
     ensures { λ r. ⌜ r ≡ beforeOf (regionsOf (now (sheet .entry)) regions) right address size ⌝ }
 {
-    let mut i = passed(sheet, regions, address as u64);
-    let mut n: u8 = 0;
-    'octets: while n < size {
-        while i < regions {
-            let region = crate::region_in(sheet, 4 + 10 * (i as usize));
-            if crate::holds(region, address as u64 + n as u64) {
-                if crate::gives(region.rights, right) {
-                    n += 1;
-                    continue 'octets;
-                }
+    let first = address as u64;
+    let stop = first + size as u64;
+    let last = 4 + 10 * (regions as usize);
+    let mut at = first;
+    let mut end: u64 = 0;
+    let mut place: usize = 4;
+    'octets: while at < stop {
+        while end <= at {
+            if last <= place {
                 break 'octets;
             }
-            i += 1;
+            let region = crate::region_in(sheet, place);
+            if denies(region, right, at) {
+                break 'octets;
+            }
+            end = region.start as u64 + region.length as u64;
+            place += 10;
         }
-        break 'octets;
+        at += 1;
     }
-    n
+    (at - first) as u8
 }
 
 // Whether every octet of a span has the right.
