@@ -1,0 +1,279 @@
+/*
+ * check PAGE...: makes the calls of the worked examples on the pages, and fails at the first line that is not what the library does.
+ *
+ * An example is a fenced block with the word "example"; docs/RULES.md, "Worked examples", says how it is read.  Also asked of all pages
+ * together: an accepted example of every command, and one of every number but 35, which takes a trace of 2^30 octets.
+ */
+#include <ctype.h>
+#include <stdio.h>
+#include <stdlib.h>
+#include <string.h>
+
+#include "type24.h"
+
+enum { ROOM = 70000, NAMES = 8, SPOILT = 0xA5 };
+
+struct octets {
+    size_t len;
+    uint8_t at[ROOM];
+};
+
+static struct octets sheet, state, memory, command, trace, reply, given, state_was, memory_was;
+static struct { char name[16]; struct octets octets; } named[NAMES];
+static struct octets *last;       /* what a line that begins with a blank goes on with */
+static int told, owes_state, owes_memory; /* answers in this block; not yet compared with what they were */
+static size_t room;               /* of the reply */
+static char call[32];
+static int numbers[64], codes[256], answers, examples;
+static const char *page;
+static int line_number;
+
+static void fail(const char *why)
+{
+    fprintf(stderr, "rules: %s:%d: %s\n", page, line_number, why);
+    exit(1);
+}
+
+/* Octets of two digits with blanks between them; 00*27 is 27 of them. */
+static void read_octets(const char *text, struct octets *into)
+{
+    while (*text) {
+        size_t times = 1;
+        char *end;
+        const unsigned long octet = strtoul(text, &end, 16);
+        if (end != text + 2 || !isxdigit((unsigned char)*text))
+            fail("an octet has two digits");
+        if (*end == '*')
+            times = strtoul(end + 1, &end, 10);
+        if (*end && *end != ' ')
+            fail("no blank behind an octet");
+        if (times > ROOM - into->len)
+            fail("too many octets");
+        memset(into->at + into->len, (int)octet, times);
+        into->len += times;
+        text = end + strspn(end, " ");
+    }
+}
+
+static int same(const struct octets *a, const struct octets *b)
+{
+    return a->len == b->len && memcmp(a->at, b->at, a->len) == 0;
+}
+
+/* What no line has spoken of must be as before the call. */
+static void settle(void)
+{
+    if (owes_state && !same(&state, &state_was))
+        fail("the state has changed, and no line above says so");
+    if (owes_memory && !same(&memory, &memory_was))
+        fail("the memory has changed, and no line above says so");
+    owes_state = owes_memory = 0;
+}
+
+static uint64_t make_call(void)
+{
+    settle();
+    state_was = state;
+    memory_was = memory;
+    owes_state = owes_memory = 1;
+    told++, answers++;
+    memset(reply.at, SPOILT, sizeof reply.at);
+    if (!strcmp(call, "t24_sheet"))
+        return t24_sheet(sheet.at, sheet.len);
+    if (!strcmp(call, "t24_lengths"))
+        return t24_lengths(sheet.at, sheet.len);
+    if (!strcmp(call, "t24_reset"))
+        return t24_reset(sheet.at, sheet.len, state.at, state.len);
+    if (!strcmp(call, "t24_enable"))
+        return t24_enable(sheet.at, sheet.len, state.at, state.len);
+    if (!strcmp(call, "t24_exchange"))
+        return t24_exchange(sheet.at, sheet.len, state.at, state.len, memory.at, memory.len, command.at, command.len, reply.at, reply.len);
+    if (!strcmp(call, "t24_replay"))
+        return t24_replay(sheet.at, sheet.len, state.at, state.len, memory.at, memory.len, trace.at, trace.len);
+    fail("no such call");
+    return 0;
+}
+
+static void expect_answer(const char *text)
+{
+    unsigned long number, place;
+    uint64_t answer;
+    char rest;
+
+    if (sscanf(text, "%lu at %lu %c", &number, &place, &rest) != 2)
+        fail("an answer is NUMBER at PLACE");
+    reply.len = room == ROOM ? t24_l(t24_lengths(sheet.at, sheet.len)) : room;
+    answer = make_call();
+    if (t24_number(answer) != number || t24_place(answer) != place) {
+        fprintf(stderr, "rules: the library answers %lu at %lu\n", (unsigned long)t24_number(answer), (unsigned long)t24_place(answer));
+        fail("another answer");
+    }
+    if (!strcmp(call, "t24_exchange") && number)
+        for (size_t i = 0; i < sizeof reply.at; i++)
+            if (reply.at[i] != SPOILT)
+                fail("a refused call has written to the reply");
+    if (strcmp(call, "t24_lengths") && number < 64)
+        numbers[number] = 1;
+}
+
+static void expect_octets(const char *what, const struct octets *have)
+{
+    if (same(have, &given))
+        return;
+    fprintf(stderr, "rules: the library leaves:");
+    for (size_t i = 0; i < have->len; i++)
+        fprintf(stderr, " %02X", have->at[i]);
+    fprintf(stderr, "\n");
+    fail(what);
+}
+
+static void expect_reply(void)
+{
+    const uint64_t lengths = t24_lengths(sheet.at, sheet.len);
+
+    strcpy(call, "t24_exchange");
+    reply.len = t24_l(lengths);
+    if (make_call() != T24_DONE)
+        fail("no reply is built");
+    expect_octets("another reply", &reply);
+    numbers[T24_DONE] = 1;
+    if (reply.at[3] % 16 == T24_ALARM_NONE)
+        codes[reply.at[0]] = 1;
+}
+
+static void use_sheet(const char *text)
+{
+    for (int i = 0; i < NAMES; i++)
+        if (named[i].name[0] && !strcmp(named[i].name, text)) {
+            sheet = named[i].octets;
+            return;
+        }
+    read_octets(text, &sheet);
+}
+
+static void name_sheet(const char *name, const char *text)
+{
+    for (int i = 0; i < NAMES; i++)
+        if (!named[i].name[0] && strlen(name) < sizeof named[i].name) {
+            strcpy(named[i].name, name);
+            last = &named[i].octets;
+            read_octets(text, last);
+            told++; /* a block may give names alone */
+            return;
+        }
+    fail("no room for the name");
+}
+
+/* A line "KEY: TEXT" of an example. */
+static void take(const char *key, const char *text)
+{
+    static const struct { const char *key; struct octets *octets; } inputs[] = {
+        {"sheet", &sheet}, {"state", &state}, {"memory", &memory}, {"command", &command}, {"trace", &trace}};
+
+    last = NULL;
+    for (size_t i = 0; i < sizeof inputs / sizeof *inputs; i++)
+        if (!strcmp(key, inputs[i].key)) {
+            settle();
+            last = inputs[i].octets;
+            last->len = 0;
+            if (last == &sheet)
+                use_sheet(text);
+            else
+                read_octets(text, last);
+            return;
+        }
+    given.len = 0;
+    if (!strncmp(key, "sheet ", 6)) {
+        name_sheet(key + 6, text);
+    } else if (!strcmp(key, "call") && strlen(text) < sizeof call) {
+        strcpy(call, text);
+    } else if (!strcmp(key, "room")) {
+        room = strtoul(text, NULL, 10);
+    } else if (!strcmp(key, "answer")) {
+        expect_answer(text);
+    } else {
+        read_octets(text, &given);
+        if (!strcmp(key, "reply")) {
+            expect_reply();
+        } else if (!strcmp(key, "state after") && owes_state) {
+            expect_octets("another state", &state);
+            owes_state = 0;
+        } else if (!strcmp(key, "memory after") && owes_memory) {
+            expect_octets("another memory", &memory);
+            owes_memory = 0;
+        } else {
+            fail("unknown line");
+        }
+    }
+}
+
+static void take_line(char *line)
+{
+    char *colon;
+
+    line[strcspn(line, "#\n")] = 0;
+    for (size_t n = strlen(line); n && isspace((unsigned char)line[n - 1]); n--)
+        line[n - 1] = 0;
+    if (line[0] == ' ' && last) {
+        read_octets(line + strspn(line, " "), last);
+    } else if (line[0]) {
+        colon = strchr(line, ':');
+        if (colon == NULL)
+            fail("no KEY:");
+        *colon++ = 0;
+        take(line, colon + strspn(colon, " "));
+    }
+}
+
+static void begin(void)
+{
+    sheet.len = state.len = memory.len = command.len = trace.len = 0;
+    call[0] = 0, told = 0, room = ROOM, last = NULL;
+    examples++;
+}
+
+static void read_page(void)
+{
+    char line[4096];
+    int inside = 0;
+    FILE *file = fopen(page, "r");
+
+    if (file == NULL)
+        fail("cannot be read");
+    for (line_number = 1; fgets(line, sizeof line, file); line_number++) {
+        if (!inside && !strncmp(line, "```example", 10)) {
+            inside = 1;
+            begin();
+        } else if (inside && !strncmp(line, "```", 3)) {
+            inside = 0;
+            settle();
+            if (!told)
+                fail("an example without an answer");
+        } else if (inside) {
+            take_line(line);
+        }
+    }
+    if (inside)
+        fail("an example without an end");
+    fclose(file);
+}
+
+int main(int argc, char **argv)
+{
+    static const uint8_t all_codes[] = {T24_NOP, T24_PRM_RD, T24_PRM_WR, T24_ID_RD, T24_ALM_RD, T24_ALM_CLR,
+        T24_SYNC_SET, T24_CONNECT, T24_DISCONNECT, T24_MEM_RD, T24_MEM_WR};
+
+    for (int i = 1; i < argc; i++) {
+        page = argv[i];
+        read_page();
+    }
+    page = "all pages", line_number = 0;
+    for (size_t i = 0; i < sizeof all_codes; i++)
+        if (!codes[all_codes[i]])
+            fail("a command without an example that is accepted");
+    for (int n = 0; n < 35; n++)
+        if (!numbers[n] && (n <= 6 || (n >= 11 && n <= 17) || n >= 31))
+            fail("a number without an example");
+    printf("rules: %d answers in %d examples are the library's\n", answers, examples);
+    return 0;
+}
