@@ -1,10 +1,11 @@
 -- Regions given by their index.
 --     apart-listed     regions that rise from index to index are apart
 --     apart-rises      and regions that are apart rise
+--     apart-behind     so that from one that starts behind an address on, all do
 --     total-more       one region more takes its own length more
 use mathlib.Core.Logic.{⊎-elim}
 use mathlib.Core.Path.{_≡_, sym, ap, _∙_}
-use Prim.Native.Nat.{ℕ, zero, suc, _+_, _<_, _≤_}
+use Prim.Native.Nat.{ℕ, zero, suc, _+_, _-_, _<_, _≤_}
 use native.Mathlib.Nat.{le-refl, add-zero, zero-add, add-assoc}
 use native.Mathlib.Numerals.{add-one}
 use native.Mathlib.Omega.{arith}
@@ -51,6 +52,13 @@ module _ (f : ℕ → Region) where
       (λ (e : j ≡ k). rw e (starts-past (suc k) m (f k .start + f k .length) (d .2) i (omega arith) (omega arith)))
       (λ (e : j ≡ k → ⊥). apart-rises (suc k) m (f k .start + f k .length) (d .2) j i (omega arith) b (omega arith))
       (eq-or-ne j k)
+
+  pub apart-behind : (n : ℕ) → Apart 0 (listed f 0 n) → (i a : ℕ) → i < n → a < f i .start → (j : ℕ) → i ≤ j → j < i + (n - i) → a < f j .start
+  apart-behind n d i a h s j l u =
+      ⊎-elim
+      (λ (q : j ≡ i). rw q s)
+      (λ (q : j ≡ i → ⊥). let v = apart-rises 0 n 0 d i j (omega arith) (omega arith) (omega arith) in omega arith)
+      (eq-or-ne j i)
 
   more : (k m : ℕ) → totalOf (listed f k (suc m)) ≡ totalOf (listed f k m) + f (k + m) .length
   unfolding listed totalOf

@@ -25,7 +25,7 @@ use Rattle.regions.specs.Search.{grantsOf, beforeOf, spanHas}
 use Rattle.regions.specs.declared.Region.{Region}
 use Rattle.regions.specs.declared.Right.{Right}
 use Rattle.regions.specs.declared.Right.the-variants.{Mapped}
-use Rattle.regions.proofs.Apart.{apart-rises}
+use Rattle.regions.proofs.Apart.{apart-rises, apart-behind}
 use Rattle.regions.proofs.Bounds.{holds-bounds, bounds-hold, past-misses}
 use Rattle.regions.proofs.Passed.{passed-ends, passed-most}
 use Rattle.regions.proofs.Spans.{before-all, before-at}
@@ -131,11 +131,4 @@ module _ (f : ℕ → Region) (n : ℕ) (d : Apart 0 (listed f 0 n)) (a to i : �
       (lt-or-le to (r .start + r .length))
 
   pub passing-gap : (w : Right) → to < r .start → grantsOf (listed f i (n - i)) w to ≡ false
-  passing-gap w l =
-      grants-none f w to i (n - i)
-      (λ j k u.
-      let s = subst (λ (q : Region). to < q .start) e l in
-      ⊎-elim
-      (λ (q : j ≡ i). rw q s)
-      (λ (q : j ≡ i → ⊥). let v = apart-rises f 0 n 0 d i j (omega arith) (omega arith) (omega arith) in omega arith)
-      (eq-or-ne j i))
+  passing-gap w l = grants-none f w to i (n - i) (apart-behind f n d i to h (subst (λ (q : Region). to < q .start) e l))

@@ -16,20 +16,24 @@ pub enum Spot {
     Nowhere,
 }
 
-// The memory place and the rights of the octet at an address.
+// The memory place and the rights of the octet at an address. Regions rise, so the first that ends behind the octet has it, or none has.
 pub fn spot_at(sheet: &[u8], regions: u8, address: u64) -> Spot
     requires { ⌜ Laid (now sheet) regions ⌝ }
     ensures { λ r. ⌜ r ≡ spotOf (regionsOf (now (sheet .entry)) regions) 0 address ⌝ }
 {
+    let last = 4 + 10 * (regions as usize);
     let mut base: u64 = 0;
-    let mut i: u8 = 0;
-    while i < regions {
-        let region = crate::region_in(sheet, 4 + 10 * (i as usize));
-        if crate::holds(region, address) {
+    let mut place: usize = 4;
+    while place < last {
+        let region = crate::region_in(sheet, place);
+        if address < region.start as u64 + region.length as u64 {
+            if address < region.start as u64 {
+                return Spot::Nowhere;
+            }
             return Spot::At(base + (address - region.start as u64), region.rights);
         }
         base = base + region.length as u64;
-        i += 1;
+        place += 10;
     }
     Spot::Nowhere
 }
