@@ -10,10 +10,9 @@ run:
 test:
 	.ci/run
 
-# The header kit, in dist/.
+# The header kit, in dist/: the product for x86-64, and what runs at hand. For another processor beside: make kit T24_MACHINE=aarch64
 kit:
-	rt staticlib type24
-	KIT_ID="$$(rt version)" kit/build target/staticlib/libtype24.a dist
+	@kit/make-dist dist
 
 # Our engine beside the plain one on the same inputs, for the processor at hand: times, instructions, stack, size.
 measure:

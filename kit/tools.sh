@@ -1,4 +1,5 @@
-# Sourced by build and test-kit, peer/figures/run and tests/programs/run: which tools make and run x86-64 programs on this machine.
+# Sourced by build, add-processor and test-kit, peer/figures/run and tests/programs/run: which tools make and run x86-64 programs on this
+# machine, and those for another processor.
 # shellcheck shell=sh disable=SC2034
 
 if [ "$(uname -m)" = x86_64 ]; then
@@ -51,13 +52,28 @@ need_checkers() {
     need gcc valgrind
 }
 
-# run PROGRAM ARGUMENT...: natively, or emulated with the cross C library; by the words in AS_NOBODY, if there are any.
+# run PROGRAM ARGUMENT...: natively, or emulated with the cross C library; by the words in AS_NOBODY, if there are any. After use_tools_of it is
+# a program for that other processor.
 AS_NOBODY=
 run() {
     # shellcheck disable=SC2086 # several words, or none
-    if [ "$NATIVE" = yes ]; then
+    if [ -n "${OTHER_RUN+set}" ]; then
+        $AS_NOBODY $OTHER_RUN "$@"
+    elif [ "$NATIVE" = yes ]; then
         $AS_NOBODY "$@"
     else
         $AS_NOBODY qemu-x86_64 -L "$LIBS/.." -E "LD_LIBRARY_PATH=$LIBS" "$@"
+    fi
+}
+
+# use_tools_of MACHINE: OTHER_CC, OTHER_NM and OTHER_RUN, the compiler, nm and emulator for another processor than the product's.
+use_tools_of() {
+    if [ "$1" = "$(uname -m)" ]; then
+        OTHER_CC=gcc OTHER_NM=nm OTHER_RUN=
+        PACKAGES="gcc libc6-dev binutils"
+    else
+        OTHER_CC=$1-linux-gnu-gcc OTHER_NM=$1-linux-gnu-nm
+        OTHER_RUN="qemu-$1 -L /usr/$1-linux-gnu -E LD_LIBRARY_PATH=/usr/$1-linux-gnu/lib"
+        PACKAGES="gcc-$1-linux-gnu qemu-user"
     fi
 }

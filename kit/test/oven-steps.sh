@@ -53,7 +53,7 @@ test_pkg_config() {
         echo "note: pkg-config is not installed, so without it"
         return
     fi
-    flags=$(PKG_CONFIG_PATH="$dist/lib/pkgconfig" pkg-config --cflags --libs type24)
+    flags=$(PKG_CONFIG_PATH="$dist/x86_64/lib/pkgconfig" pkg-config --cflags --libs type24)
     $CC -std=c99 $WARN -static "$dist/example/oven.c" $flags -o "$work/oven"
     run "$work/oven" "$work/p.bin" | cmp - "$work/p.want" || fail "oven by pkg-config"
     echo "pkg-config: ok"
@@ -63,7 +63,7 @@ test_pkg_config() {
 refused_archive() {
     printf '%s\n' "$3" >"$work/more.c"
     $CC -O2 -fno-builtin -c "$work/more.c" -o "$work/more.o"
-    cp "$dist/lib/libtype24.a" "$work/more.a"
+    cp "$dist/x86_64/lib/libtype24.a" "$work/more.a"
     $AR r "$work/more.a" "$work/more.o"
     must_fail "$1" "$2" env KIT_ID=none "$kit/build" "$work/more.a" "$work/refused"
     [ ! -e "$work/refused" ] || fail "a refused archive left a kit"
@@ -82,7 +82,7 @@ test_refused_archives() {
     must_fail "an empty archive" "lacks t24_\|cannot read" \
         env KIT_ID=none "$kit/build" "$work/empty.a" "$work/refused"
     must_fail "a KIT_ID that breaks the header" "odd" \
-        env KIT_ID='"' "$kit/build" "$dist/lib/libtype24.a" "$work/refused"
+        env KIT_ID='"' "$kit/build" "$dist/x86_64/lib/libtype24.a" "$work/refused"
     must_fail "no KIT_ID" "must name" \
-        env KIT_ID= "$kit/build" "$dist/lib/libtype24.a" "$work/refused"
+        env KIT_ID= "$kit/build" "$dist/x86_64/lib/libtype24.a" "$work/refused"
 }

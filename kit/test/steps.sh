@@ -6,8 +6,9 @@ CHECKED="valgrind -q --error-exitcode=9"
 
 test_contents() {
     say "contents"
-    for file in include/type24.h include/type24_version.h lib/libtype24.a \
-        lib/pkgconfig/type24.pc doc/LINKING.md example/oven.c VERSION; do
+    for file in include/type24.h include/type24_version.h x86_64/lib/libtype24.a \
+        x86_64/lib/pkgconfig/type24.pc lib/libtype24.a lib/pkgconfig/type24.pc doc/LINKING.md \
+        doc/PROCESSORS.md example/oven.c VERSION; do
         [ -f "$dist/$file" ] || fail "the kit lacks $file"
     done
     cat "$dist/VERSION"
@@ -109,11 +110,12 @@ test_linking_page() {
     awk '/^```c$/ { on = 1; next } /^```$/ { on = 0 } on' \
         "$dist/doc/LINKING.md" >"$work/first.c"
     [ "$(wc -l <"$work/first.c")" -le 20 ] || fail "over twenty lines"
-    $C -static "$work/first.c" -L"$dist/lib" -ltype24 -o "$work/first"
+    $C -static "$work/first.c" -L"$dist/x86_64/lib" -ltype24 -o "$work/first"
     [ "$(run "$work/first")" = accepted ] || fail "first exchange"
-    $CPP "$work/first.c" -L"$dist/lib" -ltype24 -o "$work/first"
+    $CPP "$work/first.c" -L"$dist/x86_64/lib" -ltype24 -o "$work/first"
     [ "$(run "$work/first")" = accepted ] || fail "first exchange in C++"
     echo "accepted"
 }
 
 . "$kit/test/oven-steps.sh"
+. "$kit/test/processor-steps.sh"
