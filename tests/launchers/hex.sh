@@ -1,0 +1,107 @@
+# Sourced by run: what t24-hex has to do. The kit is in $work/dist, and the commands run in $work/room.
+# shellcheck shell=sh disable=SC2154 # work is set by run
+
+HEX_USAGE="usage: t24-hex to FILE <LINES
+       t24-hex from FILE [--trace L | --state | --memory | --sheet]"
+
+test_hex() {
+    hex=$work/dist/bin/t24-hex
+    expect "t24-hex --help" 0 "$HEX_USAGE..." "" "$hex" --help
+    test_hex_words
+    test_hex_to
+    test_hex_from
+    test_hex_and_back
+}
+
+test_hex_words() {
+    expect "t24-hex alone" 2 "" "t24-hex: to or from?
+$HEX_USAGE" "$hex"
+    expect "t24-hex with an unknown word" 2 "" "t24-hex: unknown word into
+$HEX_USAGE" "$hex" into x.bin
+    expect "t24-hex to without a file" 2 "" "t24-hex: to needs one file
+$HEX_USAGE" "$hex" to
+    expect "t24-hex to two files" 2 "" "t24-hex: to needs one file
+$HEX_USAGE" "$hex" to a.bin b.bin
+    expect "t24-hex from nothing" 2 "" "t24-hex: from needs a file
+$HEX_USAGE" "$hex" from
+    expect "t24-hex from with an unknown option" 2 "" "t24-hex: unknown option --replies
+$HEX_USAGE" "$hex" from state.bin --replies
+    expect "t24-hex from with too many words" 2 "" "t24-hex: too many arguments
+$HEX_USAGE" "$hex" from state.bin --state 16
+    expect "t24-hex --trace without L" 2 "" "t24-hex: --trace needs L: 8, 16, 32, 48 or 64
+$HEX_USAGE" "$hex" from trace.bin --trace
+    expect "t24-hex --trace with a wrong L" 2 "" "t24-hex: --trace needs L: 8, 16, 32, 48 or 64
+$HEX_USAGE" "$hex" from trace.bin --trace 17
+}
+
+# refused_lines NAME LINES MESSAGE: 'to' refuses them, and leaves the file as it was.
+refused_lines() {
+    # shellcheck disable=SC2059 # the lines are a format
+    printf "$2" >"$work/room/lines"
+    input=$work/room/lines
+    printf kept >"$work/room/old.bin"
+    expect "t24-hex to, $1" 2 "" "t24-hex: $3" "$hex" to old.bin
+    input=/dev/null
+    expect "t24-hex to, $1, leaves the file" 0 "kept." "" sh -c 'cat old.bin && echo .'
+}
+
+test_hex_to() {
+    refused_lines "an odd digit" '00 01\n\n02 0 # no\n' "line 3: an odd digit, 3 in all"
+    refused_lines "a letter that is no hex" '# first\n00 0g\n' "line 2: g is no hex digit"
+    refused_lines "0x before digits" '0x00\n' "line 1: x is no hex digit"
+    expect "t24-hex to a directory" 2 "" "t24-hex: folder: is a directory" "$hex" to folder
+    expect "t24-hex to a missing folder" 2 "" "t24-hex: none/x.bin: can't be written" "$hex" to none/x.bin
+    printf '# comment\n\n 00 ff# behind\n\t7F\r\nAbCd' >"$work/room/lines"
+    input=$work/room/lines
+    expect "t24-hex to" 0 "" "" "$hex" to made.bin
+    input=/dev/null
+    expect "t24-hex to, the octets" 0 " 00 ff 7f ab cd" "" od -An -v -tx1 made.bin
+    expect "t24-hex to, from nothing" 0 "" "" "$hex" to made.bin
+    expect "t24-hex to, from nothing, no octet" 0 "0" "" sh -c 'wc -c <made.bin'
+}
+
+test_hex_from() {
+    expect "t24-hex from a missing file" 2 "" "t24-hex: none.bin: no such file" "$hex" from none.bin
+    expect "t24-hex from a directory" 2 "" "t24-hex: folder: is a directory" "$hex" from folder
+    expect "t24-hex from an empty file" 0 "" "" "$hex" from empty.bin
+    expect "t24-hex from" 0 "01103000020010000004000000030204
+10000004000000060307000210000002
+00" "" "$hex" from sheet.bin
+    expect "t24-hex --sheet" 0 "01103000 # 0: link
+02001000000400000003 # 4: region
+02041000000400000006 # 14: region
+0307000210000002 # 24: parameter
+00 # 32: end" "" "$hex" from sheet.bin --sheet
+    expect "t24-hex --state" 0 "11 # kind
+02 # link
+10 # L
+00 # dual
+01 # com_time
+00 # MN known
+00 # last MN
+00 # RSN
+00 # command latch
+00 # communication latch" "" "$hex" from state.bin --state
+    expect "t24-hex --state of no octet" 0 "# too short, a state record has 10 octets" "" "$hex" from empty.bin --state
+    expect "t24-hex --memory" 0 "0A0B0C0D0E0F1011                 # 0" "" "$hex" from memory.bin --memory
+    expect "t24-hex --trace" 0 "22 1D000000001104000010000000000000 1D00040000110400001000000A0B0C0D
+26 1D000000001105000010000000000000 1D000509000000000000000000000000 # not the kind of L 16..." "" \
+        "$hex" from form.bin --trace 16
+    head -c 40 "$work/room/trace.bin" >"$work/room/short.bin"
+    expect "t24-hex --trace, cut" 0 "22 1D000000001104000010000000000000 1D00040000110400001000000A0B0C0D
+22 1D0000000011 # cut, 7 of 33 octets" "" "$hex" from short.bin --trace 16
+}
+
+# There and back is the same file, whatever the lines look like; a file of every octet, over more than one of its pieces.
+test_hex_and_back() {
+    awk 'BEGIN { for (k = 0; k < 3; k++) for (i = 0; i < 256; i++) printf "%02x%s", i, i % 40 ? "" : "\n" }' >"$work/room/lines"
+    input=$work/room/lines
+    expect "t24-hex to, every octet" 0 "" "" "$hex" to all.bin
+    input=/dev/null
+    expect "t24-hex to, every octet, their number" 0 "768" "" sh -c 'wc -c <all.bin'
+    for words in "" --state --memory --sheet "--trace 8" "--trace 64"; do
+        # shellcheck disable=SC2016 # the inner shell's words
+        expect "t24-hex there and back $words" 0 "" "" \
+            sh -c '"$0" from all.bin $1 | "$0" to back.bin && cmp all.bin back.bin' "$hex" "$words"
+    done
+}
