@@ -53,6 +53,7 @@ install_processor() {
     cp "$work/libtype24.a" "$own/lib/libtype24.a"
     sed "s/@VERSION@/$(version_of "$1")/" "$kit/type24.pc.in" >"$own/lib/pkgconfig/type24.pc"
     [ $# -lt 4 ] || install_programs "$own/libexec" "$4"
+    [ ! -f "$1/example/explain.c" ] || install_explain "$1" "$own"
     link_lib "$1"
 }
 
@@ -63,6 +64,13 @@ install_programs() {
         cp "$2/$program" "$1/$program"
         chmod 755 "$1/$program"
     done
+}
+
+install_explain() {
+    need "$compiler"
+    mkdir -p "$2/libexec"
+    "$compiler" -std=c99 -O2 -static -I"$1/include" "$1/example/explain.c" "$2/lib/libtype24.a" -o "$2/libexec/t24-explain"
+    cp "$kit/launchers/t24-explain" "$1/bin/t24-explain"
 }
 
 version_of() { sed -n 's/^version //p' "$1/VERSION"; }

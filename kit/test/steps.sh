@@ -8,7 +8,7 @@ test_contents() {
     say "contents"
     for file in include/type24.h include/type24_version.h x86_64/lib/libtype24.a \
         x86_64/lib/pkgconfig/type24.pc lib/libtype24.a lib/pkgconfig/type24.pc doc/LINKING.md \
-        doc/PROCESSORS.md example/oven.c bin/t24-hex VERSION; do
+        doc/PROCESSORS.md example/oven.c bin/bench bin/replayer bin/t24-hex VERSION; do
         [ -f "$dist/$file" ] || fail "the kit lacks $file"
     done
     cat "$dist/VERSION"

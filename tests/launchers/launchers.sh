@@ -1,0 +1,165 @@
+# Sourced by run: what bench and replayer have to do. The kit is in $work/dist, and the commands run in $work/room.
+# shellcheck shell=sh disable=SC2154 # work and dist are set by run
+
+TAKEN="replayer: taking sheet sheet.bin, state state.bin, memory memory.bin, trace trace.bin"
+BENCH_USAGE="usage: bench [--hex] [SHEET] <COMMANDS"
+REPLAYER_USAGE="usage: replayer [SHEET [STATE [MEMORY [TRACE]]]]"
+REPLIES="00000400000000000000000000000000
+0E000400300001000000000000000000"
+DIFFERENCE="record 4 differs at octet 14
+command: MEM_RD address 00001000, 4 octets
+ours:  1D00050000110400001000000A0B0102
+trace: 1D00050000110400001000000A0B4102
+                                   ^^"
+
+test_bench() {
+    bench=$work/dist/bin/bench
+    expect "bench --help" 0 "$BENCH_USAGE..." "" "$bench" --help
+    expect "bench -h" 0 "$BENCH_USAGE..." "" "$bench" -h
+    expect "bench with an unknown option" 2 "" "bench: unknown option --hexx
+$BENCH_USAGE" "$bench" --hexx
+    expect "bench with two files" 2 "" "bench: one sheet, not 2 arguments
+$BENCH_USAGE" "$bench" sheet.bin other.bin
+    test_bench_runs
+    test_bench_files
+    test_bench_sheet
+    test_bench_hex
+}
+
+test_bench_runs() {
+    input=$work/room/commands
+    expect "bench with its default" 0 "$REPLIES" "bench: no sheet named: taking sheet.bin" "$bench"
+    expect "bench with an empty name" 0 "$REPLIES" "bench: no sheet named: taking sheet.bin" "$bench" ""
+    expect "bench with a sheet" 0 "$REPLIES" "" "$bench" sheet.bin
+    cp "$work/room/sheet.bin" "$work/room/-x"
+    expect "bench with a sheet behind --" 0 "$REPLIES" "" "$bench" -- -x
+    ln -sf "$bench" "$work/room/linked"
+    expect "bench by a link" 0 "$REPLIES" "" ./linked sheet.bin
+    input=$work/room/cut
+    expect "bench with a cut command" 2 "00000400000000000000000000000000
+CUT" "bench: the last command is cut: it has fewer octets than the sheet's L" "$bench" sheet.bin
+    input=/dev/null
+    expect "bench without a command" 0 "" "" "$bench" sheet.bin
+}
+
+test_bench_files() {
+    expect "bench with a missing sheet" 2 "" "bench: none.bin: no such file" "$bench" none.bin
+    expect "bench with a directory" 2 "" "bench: folder: is a directory" "$bench" folder
+    expect "bench with a pipe" 2 "" "bench: pipe: is a pipe, can't be read twice" "$bench" pipe
+    expect "bench with a device" 2 "" "bench: /dev/null: is not a file, can't be read twice" "$bench" /dev/null
+}
+
+test_bench_sheet() {
+    expect "bench with a refused sheet" 2 "SHEET 11 32" "bench: faulty.bin: the sheet is refused" "$bench" faulty.bin
+    stand_in 2
+    expect "bench with a refused sheet, explained" 2 "SHEET 11 32" "bench: faulty.bin: the sheet is refused
+explain sheet
+of faulty.bin" "$bench" faulty.bin
+    stand_in 0
+    expect "bench where t24-explain disagrees" 2 "SHEET 11 32" "bench: faulty.bin: the sheet is refused
+explain sheet
+of faulty.bin
+bench: t24-explain ended with 0, expected 2" "$bench" faulty.bin
+    rm "$work/dist/bin/t24-explain"
+}
+
+test_bench_hex() {
+    input=$work/room/hex
+    printf '# NOP\n00 00 00 00 0000000000000000 00000000\n\n0e000000 30000100 00000000 00000000 # CONNECT' >"$input"
+    expect "bench --hex" 0 "$REPLIES" "" "$bench" --hex sheet.bin
+    printf '00\n0\n' >"$input"
+    expect "bench --hex with an odd digit" 2 "" "t24-hex: line 2: an odd digit, 1 in all" "$bench" --hex sheet.bin
+    input=/dev/null
+}
+
+test_replayer() {
+    replayer=$work/dist/bin/replayer
+    expect "replayer --help" 0 "$REPLAYER_USAGE..." "" "$replayer" --help
+    expect "replayer -h" 0 "$REPLAYER_USAGE..." "" "$replayer" -h
+    expect "replayer with an unknown option" 2 "" "replayer: unknown option --verbose
+$REPLAYER_USAGE" "$replayer" --verbose
+    expect "replayer with five files" 2 "" "replayer: at most four files, not 5 arguments
+$REPLAYER_USAGE" "$replayer" sheet.bin state.bin memory.bin trace.bin five.bin
+    expect "replayer with its defaults" 0 "all agree: 15 records" "$TAKEN" "$replayer"
+    expect "replayer with two names" 0 "all agree: 15 records" "$TAKEN" "$replayer" sheet.bin state.bin
+    expect "replayer with four names" 0 "all agree: 15 records" "" "$replayer" sheet.bin state.bin memory.bin trace.bin
+    expect "replayer with names behind --" 0 "all agree: 15 records" "" "$replayer" -- -x state.bin memory.bin trace.bin
+    # shellcheck disable=SC2016 # the inner shell's words
+    expect "replayer with nothing to replay" 0 "nothing to replay: the trace has no record" "" \
+        sh -c '"$@" >told; ended=$?; tail -n 1 told; exit $ended' sh "$replayer" sheet.bin state.bin memory.bin empty.bin
+    expect "replayer with a wrong form" 2 "refused: 31, unknown kind, at octet 33 of the trace" "" \
+        "$replayer" sheet.bin state.bin memory.bin form.bin
+    test_replayer_files
+    test_replayer_explained
+}
+
+test_replayer_files() {
+    expect "replayer with missing files" 2 "" "replayer: none.bin: no such file
+replayer: no trace: no such file" "$replayer" sheet.bin none.bin memory.bin "no trace"
+    expect "replayer with a directory" 2 "" "replayer: folder: is a directory" "$replayer" folder state.bin memory.bin trace.bin
+    expect "replayer with a pipe" 2 "" "replayer: pipe: is a pipe, can't be read twice" \
+        "$replayer" sheet.bin state.bin memory.bin pipe
+    expect "replayer with an empty state" 2 "empty.bin: empty
+refused: 1, state record of wrong length or not valid" "" "$replayer" sheet.bin empty.bin memory.bin trace.bin
+}
+
+test_replayer_explained() {
+    expect "replayer where a record differs" 1 "$DIFFERENCE" "" "$replayer" sheet.bin state.bin memory.bin changed.bin
+    refusal="refused: 11, sheet cut short or over 2048 octets, at octet 32 of the sheet"
+    expect "replayer with a refused sheet" 2 "$refusal" "" "$replayer" faulty.bin state.bin memory.bin trace.bin
+    stand_in 1
+    expect "replayer where a record differs, explained" 1 "$DIFFERENCE
+explain trace
+of sheet.bin state.bin memory.bin changed.bin" "" "$replayer" sheet.bin state.bin memory.bin changed.bin
+    expect "replayer where t24-explain disagrees" 2 "$refusal
+explain sheet
+of faulty.bin" "replayer: t24-explain ended with 1, expected 2" "$replayer" faulty.bin state.bin memory.bin trace.bin
+    stand_in 2
+    expect "replayer with a refused sheet, explained" 2 "$refusal
+explain sheet
+of faulty.bin" "" "$replayer" faulty.bin state.bin memory.bin trace.bin
+    rm "$work/dist/bin/t24-explain"
+}
+
+# The launcher that finds t24-explain's program for the processor at hand.
+test_explain() {
+    cp "$repository/kit/launchers/t24-explain" "$work/dist/bin/t24-explain"
+    mkdir -p "$work/dist/z80/libexec"
+    printf '#!/bin/sh\necho "run $*"\nexit 2\n' >"$work/dist/z80/libexec/t24-explain"
+    mkdir -p "$work/tools"
+    printf '#!/bin/sh\nexec sh "$@"\n' >"$work/tools/qemu-z80"
+    chmod 755 "$work/tools/qemu-z80"
+    expect "t24-explain for a processor" 2 "run sheet faulty.bin" "" \
+        env T24_MACHINE=z80 "PATH=$work/tools:$PATH" "$work/dist/bin/t24-explain" sheet faulty.bin
+    rm -r "$work/dist/z80" "$work/tools" "$work/dist/bin/t24-explain"
+}
+
+# A processor that nobody has, and a program that cannot be run.
+test_other_processor() {
+    expect "bench for a processor that the kit has not" 2 "" "bench: the kit has no program at $work/dist/z80/libexec/bench" \
+        env T24_MACHINE=z80 "$bench" sheet.bin
+    mkdir -p "$work/dist/z80/libexec" "$work/tools"
+    cp "$work/dist/x86_64/libexec/bench" "$work/dist/z80/libexec/bench"
+    expect "bench without an emulator" 2 "" "bench: $work/dist/z80/libexec/bench is for z80, this is $(uname -m), and there is no \
+qemu-z80 (Debian: qemu-user)" env T24_MACHINE=z80 "$bench" sheet.bin
+    printf '#!/bin/sh\necho "emulated $*"\n' >"$work/tools/qemu-z80"
+    chmod 755 "$work/tools/qemu-z80"
+    expect "bench with an emulator" 0 "emulated $work/dist/z80/libexec/bench" "" \
+        env T24_MACHINE=z80 "PATH=$work/tools:$PATH" "$bench" sheet.bin
+    printf '#!/bin/sh\nexit 7\n' >"$work/tools/qemu-z80"
+    expect "bench whose program fails" 2 "" "bench: the program ended with 7" \
+        env T24_MACHINE=z80 "PATH=$work/tools:$PATH" "$bench" sheet.bin
+    rm -r "$work/dist/z80" "$work/tools"
+    test_without_own_programs
+}
+
+# On a machine for which the kit has no programs, those for x86-64 are emulated.
+test_without_own_programs() {
+    mkdir "$work/tools"
+    printf '#!/bin/sh\necho z80\n' >"$work/tools/uname"
+    printf '#!/bin/sh\nfor word in "$@"; do last=$word; done\necho "emulated $last"\n' >"$work/tools/qemu-x86_64"
+    chmod 755 "$work/tools/uname" "$work/tools/qemu-x86_64"
+    expect "bench where the kit has no program of the processor" 0 "emulated $work/dist/x86_64/libexec/bench" "" \
+        env -u T24_MACHINE "PATH=$work/tools:$PATH" "$bench" sheet.bin
+    rm -r "$work/tools"
+}
