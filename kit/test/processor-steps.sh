@@ -1,4 +1,4 @@
-# Sourced by steps.sh: what the kit holds for other processors.
+# Sourced by steps.sh: what the kit holds for other processors, and whether its pages name only what it holds.
 # shellcheck shell=sh disable=SC2086,SC2154,SC2046 # several words, set by test-kit
 
 # The kit's own path for the processor at hand: the page's first exchange, as a reader would link it.
@@ -43,4 +43,12 @@ test_processors() {
     must_fail "the product as another processor's" "not another processor" \
         "$kit/add-processor" "$dist" x86_64 "$dist/x86_64/lib/libtype24.a"
     must_fail "a folder that is no kit" "no kit at" "$kit/add-processor" "$work" aarch64 "$dist/x86_64/lib/libtype24.a"
+}
+
+test_citations() {
+    say "what the kit's pages name"
+    "$kit/test/citations" "$dist" || fail "a page names what the kit does not hold"
+    mkdir "$work/citing" "$work/citing/doc"
+    echo 'See `kit/test-kit` and doc/NONE.md.' >"$work/citing/doc/PAGE.md"
+    must_fail "a page that names what is not there" "kit/test-kit" "$kit/test/citations" "$work/citing"
 }
