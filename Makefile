@@ -3,8 +3,8 @@
 
 # The bench program of document 01: proved, run on sheet P and two commands, compared with crates/bench/stdout, and shown.
 run:
-	rt check bench
-	cat target/log/bench.stdout
+	@tools/prove check bench
+	@cat target/log/bench.stdout
 
 # The gate: everything is proved, refused and run from nothing.
 test:
@@ -20,11 +20,12 @@ measure:
 
 # Both engines on random sequences, as long as one wants, on the processor at hand: make soak EXCHANGES=1000000000 SEED=7
 soak:
-	NATIVE=1 peer/run compare $${EXCHANGES:-1000000000} $${SEED:-24} --progress
+	@echo "soak: $${EXCHANGES:-1000000000} exchanges; the default, 1000000000, takes about an hour of one processor"
+	@NATIVE=1 peer/run compare "$${EXCHANGES:-1000000000}" "$${SEED:-24}" --progress
 
 # Both engines on octets that a fuzzer makes up, for so many seconds: make fuzz FUZZ_SECONDS=3600
 fuzz:
-	peer/fuzz/run $${FUZZ_SECONDS:-60}
+	@peer/fuzz/run "$${FUZZ_SECONDS:-60}"
 
 # Wrong rules in code and definition together: the law must refuse each. One of them: tests/mutants/run NAME
 mutants:

@@ -34,6 +34,9 @@ pub fn compare(rig: &mut Rig, exchanges: u64, seed: u64) -> Outcome {
 pub fn random_sequences(rig: &mut Rig, exchanges: u64, seed: u64) -> Outcome {
     let sequences = exchanges / runs::STEPS + u64::from(exchanges % runs::STEPS != 0);
     for sequence in 0..sequences {
+        if let Some(progress) = &mut rig.progress {
+            progress.reach(sequence, sequences);
+        }
         runs::run_sequence(rig, seed, sequence)?;
     }
     Ok(())
