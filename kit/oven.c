@@ -3,11 +3,13 @@
  * Brings the slave up with a device sheet from a file and gives it commands.
  * In a drive, t24_exchange stands in the cycle and commands come by wire.
  */
+#include <errno.h>
 #include <stdio.h>
 #include <stdlib.h>
 #include <string.h>
 
 #include "type24.h"
+#include "type24_words.h"
 
 /* Everything the host lends; it owns all memory, the library owns none. */
 struct host {
@@ -22,29 +24,41 @@ struct host {
 };
 
 /* Says in words what a call refused and why; tells 1 if it was done. */
-static int done(const char *what, uint64_t answer)
+static int done(const struct host *host, const char *what, uint64_t answer)
 {
+    char words[256];
+
     if (t24_number(answer) == T24_DONE)
         return 1;
-    fprintf(stderr, "%s refused: number %lu, %s", what,
-            (unsigned long)t24_number(answer), t24_words(t24_number(answer)));
-    if (t24_number(answer) >= T24_SHEET_CUT)
-        fprintf(stderr, ", at octet %lu", (unsigned long)t24_place(answer));
-    fputc('\n', stderr);
+    t24_sheet_words(host->sheet, host->sheet_len, answer, words, sizeof words);
+    fprintf(stderr, "%s refused: %s\n", what, words);
+    return 0;
+}
+
+/* Not every C library says why a file could not be read. */
+static int unreadable(const char *path)
+{
+    fprintf(stderr, "oven: %s: %s\n", path,
+            errno != 0 ? strerror(errno) : "cannot be read");
     return 0;
 }
 
 static int load_sheet(struct host *host, const char *path)
 {
-    FILE *file = fopen(path, "rb");
+    FILE *file;
+    int failed;
 
-    if (file == NULL) {
-        perror(path);
-        return 0;
-    }
+    errno = 0;
+    file = fopen(path, "rb");
+    if (file == NULL)
+        return unreadable(path);
     host->sheet_len = fread(host->sheet, 1, sizeof host->sheet, file);
+    failed = ferror(file); /* a directory opens, but does not read */
+    if (failed)
+        unreadable(path);
     fclose(file);
-    return done("sheet", t24_sheet(host->sheet, host->sheet_len));
+    return !failed
+        && done(host, "sheet", t24_sheet(host->sheet, host->sheet_len));
 }
 
 static int bring_up(struct host *host)
@@ -61,10 +75,10 @@ static int bring_up(struct host *host)
     }
     printf("L %lu, memory %lu octets\n", (unsigned long)host->l,
            (unsigned long)host->memory_len);
-    return done("reset", t24_reset(host->sheet, host->sheet_len,
-                                   host->state, sizeof host->state))
-        && done("enable", t24_enable(host->sheet, host->sheet_len,
-                                     host->state, sizeof host->state));
+    return done(host, "reset", t24_reset(host->sheet, host->sheet_len,
+                                         host->state, sizeof host->state))
+        && done(host, "enable", t24_enable(host->sheet, host->sheet_len,
+                                           host->state, sizeof host->state));
 }
 
 /* One exchange; tells 1 if the command was accepted. */
@@ -77,7 +91,7 @@ static int exchange(struct host *host, const char *name)
     uint32_t alarm;
     size_t i;
 
-    if (!done(name, answer))
+    if (!done(host, name, answer))
         return 0;
     printf("%-10s ", name);
     for (i = 0; i < host->l; i++)
@@ -85,7 +99,8 @@ static int exchange(struct host *host, const char *name)
     printf("\n");
     fflush(stdout);
     if (t24_reply_communication_alarm(host->reply) != T24_ALARM_NONE)
-        fprintf(stderr, "%s: a cycle was lost\n", name);
+        fprintf(stderr, "%s: %s\n", name,
+                t24_communication_words(T24_ALARM_COMMUNICATION));
     alarm = t24_reply_alarm(host->reply);
     if (alarm == T24_ALARM_NONE)
         return 1;
@@ -98,7 +113,7 @@ static int exchange(struct host *host, const char *name)
 static uint8_t *command(struct host *host, uint8_t code)
 {
     memset(host->command, 0, sizeof host->command);
-    host->command[0] = code;
+    host->command[T24_COMMAND_AT_CODE] = code;
     return host->command;
 }
 
@@ -108,10 +123,10 @@ static uint8_t *memory_command(struct host *host, uint8_t code, uint32_t address
     uint8_t *octets = command(host, code);
     int i;
 
-    octets[5] = T24_ELEMENT_2;
-    octets[6] = 1;
+    octets[T24_MEM_AT_ELEMENT] = T24_ELEMENT_2;
+    octets[T24_MEM_AT_COUNT] = 1;
     for (i = 0; i < 4; i++, address >>= 8)
-        octets[8 + i] = (uint8_t)(address & 0xFFu);
+        octets[T24_MEM_AT_ADDRESS + i] = (uint8_t)(address & 0xFFu);
     return octets;
 }
 
@@ -120,14 +135,14 @@ static int bake(struct host *host)
     uint8_t *octets = command(host, T24_CONNECT);
     int accepted;
 
-    octets[4] = host->sheet[2]; /* version and profile of the link record */
-    octets[6] = 1;              /* com_time; com_mod 0 is asynchronous */
-    octets[7] = host->sheet[3];
+    octets[T24_CONNECT_AT_VERSION] = host->sheet[T24_SHEET_AT_VERSION];
+    octets[T24_CONNECT_AT_COM_TIME] = 1; /* com_mod 0 is asynchronous */
+    octets[T24_CONNECT_AT_PROFILE] = host->sheet[T24_SHEET_AT_PROFILE];
     accepted = exchange(host, "CONNECT");
     memory_command(host, T24_MEM_RD, 0x1000);
     accepted = exchange(host, "MEM_RD") && accepted;
     octets = memory_command(host, T24_MEM_WR, 0x1000);
-    octets[12] = 0xB4; /* 180 degrees, low octet first */
+    octets[T24_MEM_AT_DATA] = 0xB4; /* 180 degrees, low octet first */
     accepted = exchange(host, "MEM_WR") && accepted;
     command(host, T24_DISCONNECT);
     return exchange(host, "DISCONNECT") && accepted;

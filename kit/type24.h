@@ -17,12 +17,18 @@
  *    them writes is shared.  A call needs up to 2 KiB of stack.
  *  - Numbers of more than one octet in sheet, command and reply are sent low
  *    octet first.
+ *
+ * type24_octets.h has the octets of sheet, state record, commands and replies
+ * and comes with this header; type24_words.h makes detailed words and comes
+ * where a host includes it.  RULES is the page RULES.md, named with a section.
  */
 #ifndef TYPE24_H
 #define TYPE24_H
 
 #include <stddef.h>
 #include <stdint.h>
+
+#include "type24_octets.h" /* places, kinds, links, codes, commands */
 
 #define T24_VERSION "1.0.0" /* T24_PROVED_WITH stands in type24_version.h */
 
@@ -38,7 +44,7 @@
 #define T24_MEMORY_MAX 65536 /* no accepted sheet describes more memory */
 #define T24_TRACE_MAX 1073741823 /* no replayed trace is longer */
 
-/* Numbers a call can answer, see t24_number(). */
+/* Numbers a call can answer, see t24_number() (RULES, numbers of the calls). */
 #define T24_DONE 0          /* done, or reply built, or sheet valid */
 #define T24_BAD_STATE 1     /* state record of wrong length or not valid */
 #define T24_BAD_MEMORY 2    /* memory length not the sum of the regions */
@@ -59,59 +65,7 @@
 #define T24_TRACE_DIFFERS 34 /* trace: a reply is not this slave's */
 #define T24_TRACE_LONG 35   /* trace exceeds T24_TRACE_MAX */
 
-/* Sheet: record kinds, and the rights of a region. */
-#define T24_RECORD_END 0x00
-#define T24_RECORD_LINK 0x01      /* L (1), version (1), profile (1) */
-#define T24_RECORD_REGION 0x02    /* start (4), length (4), rights (1) */
-#define T24_RECORD_PARAMETER 0x03 /* number (2), address (4), size (1) */
-#define T24_RECORD_ID 0x04        /* code (1), length (1), 32 octets */
-#define T24_RIGHT_READ 0x01
-#define T24_RIGHT_WRITE_ASYNC 0x02
-#define T24_RIGHT_WRITE_SYNC 0x04
-
-/* Trace: record kinds, each with a command and then a reply of L octets. */
-#define T24_TRACE_8 0x21 /* L of 8; then 0x22 to 0x25 for 16, 32, 48 and 64 */
-
-/* State record: what stands at which octet, and the values of the link. */
-#define T24_AT_KIND 0 /* always T24_STATE_KIND */
-#define T24_AT_LINK 1
-#define T24_AT_L 2
-#define T24_AT_DUAL 3     /* dual transfer, 0 or 1 */
-#define T24_AT_COM_TIME 4 /* nonzero exactly in the two connected links */
-#define T24_AT_MN_KNOWN 5
-#define T24_AT_LAST_MN 6
-#define T24_AT_RSN 7
-#define T24_AT_COMMAND_ALARM 8       /* latched: 0, 8, 9, 10 or 12 */
-#define T24_AT_COMMUNICATION_ALARM 9 /* latched: 0 or 12 */
-#define T24_STATE_KIND 0x11
-#define T24_LINK_DISABLED 0
-#define T24_LINK_DISCONNECTED 1
-#define T24_LINK_ASYNC 2
-#define T24_LINK_SYNC 3
-
-/* Command codes, octet 0 of command and reply. */
-#define T24_NOP 0x00
-#define T24_PRM_RD 0x01
-#define T24_PRM_WR 0x02
-#define T24_ID_RD 0x03
-#define T24_ALM_RD 0x05
-#define T24_ALM_CLR 0x06
-#define T24_SYNC_SET 0x0D
-#define T24_CONNECT 0x0E
-#define T24_DISCONNECT 0x0F
-#define T24_MEM_RD 0x1D
-#define T24_MEM_WR 0x1E
-
-/* CONNECT octet 5, com_mod: dual transfer needs the synchronous bit too. */
-#define T24_COM_SYNC 0x02
-#define T24_COM_DUAL 0x04
-
-/* MEM_RD and MEM_WR octet 5: low half 1, high half the element's width. */
-#define T24_ELEMENT_1 0x11 /* elements of 1 octet */
-#define T24_ELEMENT_2 0x21 /* elements of 2 octets */
-#define T24_ELEMENT_4 0x31 /* elements of 4 octets */
-
-/* Alarms in a reply and in the latches. */
+/* Alarms in a reply and in the latches (RULES, latches and alarms). */
 #define T24_ALARM_NONE 0
 #define T24_ALARM_CODE 8           /* unknown command code */
 #define T24_ALARM_DATA 9           /* a field of the command is wrong */
@@ -124,7 +78,8 @@ extern "C" {
 #endif
 
 /*
- * Verdict on a sheet.  Needs nothing but the sheet, of any length.
+ * Verdict on a sheet (RULES, faults of a sheet).  Needs nothing but the sheet,
+ * of any length; t24_sheet_words() in type24_words.h says the fault in words.
  * Answers T24_DONE for a valid sheet, else 11 to 17 for its first fault, with
  * the octet of the sheet where the faulty record starts as place.  A sheet
  * over T24_SHEET_MAX is T24_SHEET_CUT at 0.  At each record the order is
@@ -157,7 +112,8 @@ uint64_t t24_reset(const uint8_t *sheet, size_t sheet_len,
  * Needs a valid sheet and a valid state record of that sheet's L.
  * Answers, the first that applies: 11 to 17 with place as t24_sheet does;
  * T24_BAD_STATE if the state has the wrong length or is not valid under this
- * sheet; T24_NOT_DISABLED if its link is not 0; else T24_DONE.
+ * sheet (RULES, the state record); T24_NOT_DISABLED if its link is not 0; else
+ * T24_DONE.
  * Afterwards: on T24_DONE the state's link is T24_LINK_DISCONNECTED, its other
  * octets as before; else it is unchanged.  The sheet is unchanged.
  */
@@ -167,8 +123,8 @@ uint64_t t24_enable(const uint8_t *sheet, size_t sheet_len,
 /*
  * One exchange: takes the master's command, builds the reply.
  * Needs a valid sheet, a valid state record of that sheet's L that is not
- * Disabled, the memory (the regions one after another in sheet order), and
- * command and reply of exactly L octets.
+ * Disabled, the memory (the regions one after another in sheet order: RULES,
+ * the memory), and command and reply of exactly L octets.
  * Answers, the first that applies: 11 to 17 with place as t24_sheet does;
  * T24_BAD_STATE (wrong length or not valid under this sheet); T24_BAD_MEMORY;
  * T24_BAD_COMMAND; T24_BAD_REPLY; T24_IS_DISABLED; else T24_DONE.
@@ -186,7 +142,8 @@ uint64_t t24_exchange(const uint8_t *sheet, size_t sheet_len,
                       uint8_t *reply, size_t reply_len);
 
 /*
- * Replays a trace: exchanges each record's command and compares the replies.
+ * Replays a trace: exchanges each record's command and compares the replies
+ * (RULES, the trace).
  * Needs what t24_exchange needs but for command and reply, and a trace: none or
  * more records of 1 + 2 L octets.
  * Answers, the first that applies: 11 to 17, T24_BAD_STATE, T24_BAD_MEMORY and
@@ -209,7 +166,7 @@ uint64_t t24_replay(const uint8_t *sheet, size_t sheet_len,
 }
 #endif
 
-/* The number in an answer: T24_DONE, T24_TRACE_DIFFERS, or why nothing was done. */
+/* The number in an answer: T24_DONE, T24_TRACE_DIFFERS, or a refusal's. */
 static inline uint32_t t24_number(uint64_t answer)
 {
     return answer & 0xFFFFFFFFu;
@@ -245,16 +202,20 @@ static inline size_t t24_memory(uint64_t lengths)
     return t24_place(lengths);
 }
 
-/* The alarm of this command in a built reply: T24_ALARM_NONE if accepted. */
+/*
+ * The alarm of this command in a built reply: T24_ALARM_NONE if accepted, and
+ * where the watchdog failed, so that nothing was executed: then the state's
+ * link went from T24_LINK_SYNC to T24_LINK_ASYNC (RULES, the watchdog).
+ */
 static inline uint32_t t24_reply_alarm(const uint8_t *reply)
 {
-    return reply[3] & 0x0Fu;
+    return reply[T24_REPLY_AT_STATUS + 1] & 0x0Fu;
 }
 
 /* The latched communication alarm in a built reply. */
 static inline uint32_t t24_reply_communication_alarm(const uint8_t *reply)
 {
-    return (reply[3] >> 4) & 0x0Fu;
+    return (reply[T24_REPLY_AT_STATUS + 1] >> 4) & 0x0Fu;
 }
 
 /* A call's number in words. */
@@ -293,6 +254,16 @@ static inline const char *t24_alarm_words(uint32_t alarm)
     case T24_ALARM_DATA: return "a field of the command is wrong";
     case T24_ALARM_RIGHTS: return "no right to part of the span";
     case T24_ALARM_LINK: return "command not allowed in this link";
+    default: return "not an alarm of this library";
+    }
+}
+
+/* The communication latch in words: its 12 is not the command alarm's. */
+static inline const char *t24_communication_words(uint32_t alarm)
+{
+    switch (alarm) {
+    case T24_ALARM_NONE: return "none";
+    case T24_ALARM_COMMUNICATION: return "a cycle was lost: MN did not follow";
     default: return "not an alarm of this library";
     }
 }

@@ -166,7 +166,7 @@ void bench_cases(void)
     case_11();
 }
 
-/* Reset, enable, zero memory, then the paper's two commands and replies. */
+/* Reset, enable, zero memory, then the bench's two commands and replies. */
 void bench_program(void)
 {
     static const uint8_t disabled[10] = { 0x11, 0, 0x10 };

@@ -22,6 +22,7 @@ static const struct group groups[] = {
 #endif
     { "header: constants", header_constants },
     { "header: answers and words", header_words },
+    { "header: commands built by its constants", octets_commands },
     { "bench: the eleven cases", bench_cases },
     { "bench: the two lines of the bench program", bench_program },
     { "accident: 32-octet replies, sheet for 64", accident_reply },
@@ -41,6 +42,17 @@ static const struct group groups[] = {
     { "replay: every kind", replay_kinds },
     { "replay: refusals in order", replay_refusals },
     { "replay: the longest trace, and longer", replay_longest },
+    { "words: each fault of a sheet, in any room", words_faults },
+    { "words: limits of a sheet", words_limits },
+    { "words: answers of other sheets", words_of_others },
+    { "words: a sheet cut everywhere", words_cut },
+    { "words: random sheets, random answers", words_random },
+    { "words: status", words_status },
+    { "words: state records", words_state },
+    { "words: state records that are not valid", words_state_faults },
+    { "words: each octet of each reply", words_octets },
+    { "words: commands", words_commands },
+    { "words: traces", words_traces },
     { "each number met at each call that has it", all_numbers_met }
 };
 

@@ -6,6 +6,18 @@
 
 void header_constants(void);
 void header_words(void);
+void octets_commands(void);
+void words_faults(void);
+void words_limits(void);
+void words_of_others(void);
+void words_cut(void);
+void words_random(void);
+void words_status(void);
+void words_state(void);
+void words_state_faults(void);
+void words_octets(void);
+void words_commands(void);
+void words_traces(void);
 void sheet_faults(void);
 void sheet_limits(void);
 void refusal_order(void);

@@ -1,4 +1,4 @@
-/* The header itself: its numbers are the paper's, its words tell apart. */
+/* The header itself: its numbers are the rules', its words tell apart. */
 #include "groups.h"
 
 #include <string.h>
@@ -38,7 +38,31 @@ static const unsigned pair[][2] = {
     { T24_RIGHT_READ, 1 }, { T24_RIGHT_WRITE_ASYNC, 2 },
     { T24_RIGHT_WRITE_SYNC, 4 }, { T24_COM_SYNC, 2 }, { T24_COM_DUAL, 4 },
     { T24_ELEMENT_1, 0x11 }, { T24_ELEMENT_2, 0x21 },
-    { T24_ELEMENT_4, 0x31 }
+    { T24_ELEMENT_4, 0x31 }, { T24_TRACE_16, 0x22 }, { T24_TRACE_32, 0x23 },
+    { T24_TRACE_48, 0x24 }, { T24_TRACE_64, 0x25 },
+    { T24_TRACE_AT_COMMAND, 1 }, { T24_RECORD_END_LEN, 1 },
+    { T24_RECORD_LINK_LEN, 4 }, { T24_RECORD_REGION_LEN, 10 },
+    { T24_RECORD_PARAMETER_LEN, 8 }, { T24_RECORD_ID_LEN, 35 },
+    { T24_SHEET_AT_L, 1 }, { T24_SHEET_AT_VERSION, 2 },
+    { T24_SHEET_AT_PROFILE, 3 }, { T24_REGION_AT_START, 1 },
+    { T24_REGION_AT_LENGTH, 5 }, { T24_REGION_AT_RIGHTS, 9 },
+    { T24_PARAMETER_AT_NUMBER, 1 }, { T24_PARAMETER_AT_ADDRESS, 3 },
+    { T24_PARAMETER_AT_SIZE, 7 }, { T24_ITEM_AT_CODE, 1 },
+    { T24_ITEM_AT_LENGTH, 2 }, { T24_ITEM_AT_OCTETS, 3 },
+    { T24_REGIONS_MAX, 32 }, { T24_PARAMETERS_MAX, 64 },
+    { T24_ITEMS_MAX, 32 }, { T24_PARAMETER_SIZE_MAX, 56 },
+    { T24_ITEM_OCTETS, 32 }, { T24_COMMAND_AT_CODE, 0 },
+    { T24_COMMAND_AT_WDT, 1 }, { T24_REPLY_AT_CODE, 0 },
+    { T24_REPLY_AT_RWDT, 1 }, { T24_REPLY_AT_STATUS, 2 },
+    { T24_STATUS_LATCHED, 1 }, { T24_STATUS_ALWAYS, 4 },
+    { T24_PRM_AT_NUMBER, 4 }, { T24_PRM_AT_SIZE, 6 },
+    { T24_PRM_AT_DATA, 8 }, { T24_ID_AT_CODE, 4 }, { T24_ID_AT_OFFSET, 5 },
+    { T24_ID_AT_SIZE, 6 }, { T24_ID_AT_DATA, 8 }, { T24_ALM_AT_MODE, 4 },
+    { T24_ALM_AT_COMMAND, 8 }, { T24_ALM_AT_COMMUNICATION, 9 },
+    { T24_CONNECT_AT_VERSION, 4 }, { T24_CONNECT_AT_COM_MOD, 5 },
+    { T24_CONNECT_AT_COM_TIME, 6 }, { T24_CONNECT_AT_PROFILE, 7 },
+    { T24_MEM_AT_ELEMENT, 5 }, { T24_MEM_AT_COUNT, 6 },
+    { T24_MEM_AT_ADDRESS, 8 }, { T24_MEM_AT_DATA, 12 }
 };
 
 void header_constants(void)

@@ -13,7 +13,9 @@ make_sheets() {
     octets 01 10 30 00 02 00 10 00 00 04 00 00 00 03 \
         02 04 10 00 00 04 00 00 00 06 03 07 00 02 10 00 00 02 00 >"$work/p.bin"
     head -c 32 "$work/p.bin" >"$work/cut.bin"
+    mkdir "$work/folder"
     octets 01 08 30 00 00 >"$work/bare.bin"
+    octets 01 10 30 00 02 00 10 00 00 04 00 00 00 09 00 >"$work/rights.bin"
     octets 01 10 30 00 02 00 10 00 00 04 00 00 00 01 00 >"$work/readonly.bin"
     cat >"$work/p.want" <<'END'
 L 16, memory 8 octets
@@ -33,16 +35,31 @@ refused_with() {
     grep -F "$2" "$work/out"
 }
 
+# The page's command makes the example's sheet.
+test_example_sheet() {
+    awk '/^    \{$/ { on = 1 } on { print } /^    \} >/ { on = 0 }' \
+        "$dist/doc/LINKING.md" >"$work/make-sheet"
+    (cd "$work" && sh ./make-sheet) || fail "the page's command for a sheet"
+    cmp "$work/example.sheet" "$dist/example/example.sheet" || fail "example.sheet"
+    echo "example.sheet is what the page makes"
+}
+
 test_oven() {
     say "oven"
     make_sheets
+    test_example_sheet
     $CPP "$dist/example/oven.c" $LIB -o "$work/oven"
     run "$work/oven" "$work/p.bin" | cmp - "$work/p.want" || fail "oven in C++"
     $C -static "$dist/example/oven.c" $LIB -o "$work/oven"
     run "$work/oven" "$work/p.bin" >"$work/out" || fail "oven"
     cmp "$work/out" "$work/p.want" || fail "oven's replies"
     cat "$work/out"
-    refused_with cut.bin "sheet: ends too early or is too long, at octet 32"
+    run "$work/oven" "$dist/example/example.sheet" | cmp - "$work/p.want" \
+        || fail "oven with the example's sheet"
+    refused_with cut.bin "sheet refused: 11 at octet 32: no end record"
+    refused_with rights.bin "sheet refused: 14 at octet 4: region 1, rights 09: only bits 0 to 2 may be set"
+    refused_with folder "oven: $work/folder: Is a directory"
+    refused_with none.bin "oven: $work/none.bin: No such file or directory"
     refused_with bare.bin "MEM_RD refused: alarm 9, a field of the command is wrong"
     refused_with readonly.bin "MEM_WR refused: alarm 10, no right to part of the span"
     test_pkg_config

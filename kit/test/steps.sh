@@ -6,9 +6,11 @@ CHECKED="valgrind -q --error-exitcode=9"
 
 test_contents() {
     say "contents"
-    for file in include/type24.h include/type24_version.h x86_64/lib/libtype24.a \
-        x86_64/lib/pkgconfig/type24.pc lib/libtype24.a lib/pkgconfig/type24.pc doc/LINKING.md \
-        doc/PROCESSORS.md example/oven.c bin/bench bin/replayer bin/t24-hex VERSION; do
+    for file in include/type24.h include/type24_octets.h include/type24_words.h \
+        include/type24_version.h x86_64/lib/libtype24.a x86_64/lib/pkgconfig/type24.pc \
+        lib/libtype24.a lib/pkgconfig/type24.pc doc/LINKING.md doc/PROCESSORS.md \
+        example/oven.c example/example.sheet example/explain.c bin/t24-explain \
+        bin/bench bin/replayer bin/t24-hex VERSION; do
         [ -f "$dist/$file" ] || fail "the kit lacks $file"
     done
     cat "$dist/VERSION"
@@ -27,12 +29,19 @@ END
 
 # Twice in one file, alone, and under warnings stricter than the tests' own.
 test_header() {
-    say "header alone"
-    printf '#include "type24.h"\n#include "type24.h"\n' >"$work/header.c"
+    say "headers alone"
     strict="-Wconversion -Wsign-conversion -Wshadow -Wundef"
-    $C $strict -c "$work/header.c" -o "$work/header.o"
-    $CPP $strict -Wold-style-cast -c "$work/header.c" -o "$work/header.o"
-    echo "C99 and C++11: no warning"
+    for header in "$dist"/include/*.h; do
+        name=$(basename "$header")
+        printf '#include "%s"\n#include "%s"\nint alone(void);\n' "$name" "$name" >"$work/header.c"
+        $C $strict -c "$work/header.c" -o "$work/header.o"
+        $CPP $strict -Wold-style-cast -c "$work/header.c" -o "$work/header.o"
+        echo "$name, C99 and C++11: no warning"
+    done
+    # The words need no C library, so that a board without one can have them.
+    $C -ffreestanding -nostdinc -isystem "$($CC -print-file-name=include)" \
+        -c "$work/header.c" -o "$work/header.o"
+    echo "$name without a C library: no warning"
 }
 
 test_boundary_in_c() {
@@ -98,6 +107,28 @@ test_that_tests_fail() {
     unset SPOIL
 }
 
+# wrong_words NAME HEADER EDIT: the tests notice a header with this edit.
+wrong_words() {
+    rm -rf "$work/wrong-include"
+    cp -r "$dist/include" "$work/wrong-include"
+    sed "$3" "$dist/include/$2" >"$work/wrong-include/$2"
+    ! cmp -s "$dist/include/$2" "$work/wrong-include/$2" || fail "no edit: $1"
+    $CC -std=c99 -static -I"$work/wrong-include" $SOURCES $LIB -o "$work/wrong"
+    must_fail "$1" FAILED run "$work/wrong" stop
+}
+
+test_that_words_fail() {
+    say "wrong words are noticed"
+    wrong_words "a cut record taken for whole" type24_walk.h \
+        's/if (len == 0 || len > left)/if (len == 0)/'
+    wrong_words "a field of a cut record" type24_sheet_words.h \
+        's/    if (len == 0 || len > left)/    if (len == 0)/'
+    wrong_words "a zero behind the room" type24_text.h \
+        's/text->len < text->room ? text->len : text->room - 1/text->len/'
+    wrong_words "a limit off by one" type24_sheet_words.h \
+        's/memory <= T24_MEMORY_MAX/memory <= T24_MEMORY_MAX + 1/'
+}
+
 test_stack() {
     say "stack"
     $C -static stack.c sheets.c $LIB -o "$work/stack"
@@ -119,3 +150,4 @@ test_linking_page() {
 
 . "$kit/test/oven-steps.sh"
 . "$kit/test/processor-steps.sh"
+. "$kit/test/explain-steps.sh"

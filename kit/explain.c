@@ -1,0 +1,276 @@
+/*
+ * t24-explain: what a device sheet has, and whether the replies of a trace are
+ * this slave's, in words.  libtype24.a decides, and type24_words.h has the words.
+ */
+#ifndef _POSIX_C_SOURCE
+#define _POSIX_C_SOURCE 200112L /* isatty is not plain C99 */
+#endif
+#include <stdio.h>
+#include <stdlib.h>
+#include <string.h>
+#include <unistd.h>
+
+#include "explain_file.h"
+#include "explain_show.h"
+#include "type24.h"
+#include "type24_words.h"
+
+enum { AGREES = 0, DIFFERS = 1, REFUSED = 2 };
+enum { PIECE = 1 << 18 }; /* octets of a trace between two looks at progress */
+
+/* The slave of a trace, and the trace. */
+struct replay {
+    struct file sheet, state, memory, trace;
+    uint8_t *memory_before;
+    size_t l, size;      /* octets of a PDU, and of a record */
+    int progress;        /* whether it is shown */
+    unsigned long shown; /* the percent shown last; 101 before the first */
+};
+
+static const char usage_words[] =
+    "usage: t24-explain sheet SHEET\n"
+    "       t24-explain [--progress] trace SHEET STATE MEMORY TRACE\n"
+    "sheet  tells whether the device sheet is valid, and else its first fault.\n"
+    "trace  gives the slave each command of TRACE, from the state record STATE\n"
+    "       and the memory MEMORY on, and tells the first reply that is not the\n"
+    "       slave's, or that all agree.  How far it is shows on a terminal, and\n"
+    "       with --progress.\n"
+    "All files hold octets as they are; RULES.md says what they mean.\n"
+    "Exit status: 0 valid, or all agree; 1 a reply differs; 2 refused, or a file\n"
+    "cannot be read.\n";
+
+static int explain_sheet(const char *path)
+{
+    struct file sheet = { NULL, NULL, 0 };
+    char words[256];
+    int status = REFUSED;
+    uint64_t answer;
+
+    if (read_file(&sheet, path, T24_SHEET_MAX)) {
+        answer = t24_sheet(sheet.octets, sheet.len);
+        status = answer == T24_DONE ? AGREES : REFUSED;
+        t24_sheet_words(sheet.octets, sheet.len, answer, words, sizeof words);
+        fprintf(status == AGREES ? stdout : stderr, "sheet: %s\n", words);
+    }
+    free(sheet.octets);
+    return status;
+}
+
+/* The slave's state or memory does not go with the sheet. */
+static int misfit(const struct replay *run, uint32_t number)
+{
+    const uint64_t lengths = t24_lengths(run->sheet.octets, run->sheet.len);
+
+    if (number == T24_BAD_MEMORY)
+        fprintf(stderr, "t24-explain: %s: %s: %lu, not %lu\n", run->memory.path,
+                t24_words(number), (unsigned long)run->memory.len,
+                (unsigned long)t24_memory(lengths));
+    else if (number == T24_BAD_STATE)
+        fprintf(stderr, "t24-explain: %s: no valid state record: %s\n",
+                run->state.path,
+                t24_state_fault_words(run->state.octets, run->state.len,
+                                      t24_l(lengths)));
+    else
+        complain(run->state.path, "the slave is Disabled: no exchange");
+    return REFUSED;
+}
+
+/* A refusal, by the file that it is about. */
+static int refused(const struct replay *run, uint64_t answer)
+{
+    const uint32_t number = t24_number(answer);
+    char words[256];
+
+    if (number < T24_SHEET_CUT)
+        return misfit(run, number);
+    if (number < T24_TRACE_KIND)
+        t24_sheet_words(run->sheet.octets, run->sheet.len, answer, words,
+                        sizeof words);
+    else
+        t24_trace_words(run->trace.octets, run->trace.len, run->l, answer,
+                        words, sizeof words);
+    complain((number < T24_TRACE_KIND ? run->sheet : run->trace).path, words);
+    return REFUSED;
+}
+
+static uint64_t replay_piece(struct replay *run, size_t at, size_t len)
+{
+    return t24_replay(run->sheet.octets, run->sheet.len, run->state.octets,
+                      run->state.len, run->memory.octets, run->memory.len,
+                      run->trace.octets + at, len);
+}
+
+/* A trace that has its form may go by in pieces, and is replayed the same. */
+static int has_form(const struct replay *run)
+{
+    size_t at;
+
+    if (run->trace.len > T24_TRACE_MAX || run->trace.len % run->size != 0)
+        return 0;
+    for (at = 0; at < run->trace.len; at += run->size)
+        if (t24_trace_l(run->trace.octets[at]) != run->l)
+            return 0;
+    return 1;
+}
+
+/* In one line, which end_progress ends. */
+static void show_progress(struct replay *run, size_t done)
+{
+    const unsigned long percent =
+        (unsigned long)((uint64_t)done * 100 / run->trace.len);
+
+    if (!run->progress || percent == run->shown)
+        return;
+    run->shown = percent;
+    fprintf(stderr, "\r%3lu %%", percent);
+}
+
+static void end_progress(struct replay *run)
+{
+    if (run->progress)
+        fprintf(stderr, "\n");
+}
+
+/* State and memory stand as before the record, so the slave's reply to it is
+ * got by giving it the command once more. */
+static int differs(struct replay *run, size_t record, size_t octet)
+{
+    const size_t at = record * run->size;
+    const uint8_t *command = run->trace.octets + at + T24_TRACE_AT_COMMAND;
+    const uint8_t *theirs = command + run->l;
+    uint8_t ours[T24_L_MAX];
+    char words[256];
+
+    printf("record %lu, at octet %lu of the trace, differs at octet %lu of its "
+           "reply\n", (unsigned long)record, (unsigned long)at,
+           (unsigned long)octet);
+    t24_command_words(command, run->l, words, sizeof words);
+    printf("command: %s\n", words);
+    t24_state_words(run->state.octets, words, sizeof words);
+    printf("before:  %s\n", words);
+    t24_exchange(run->sheet.octets, run->sheet.len, run->state.octets,
+                 run->state.len, run->memory.octets, run->memory.len, command,
+                 run->l, ours, run->l);
+    print_octets("ours:  ", ours, run->l);
+    print_octets("trace: ", theirs, run->l);
+    print_marks(ours, theirs, run->l);
+    printf("octet %lu: %s\n", (unsigned long)octet,
+           t24_octet_words(command[T24_COMMAND_AT_CODE], octet));
+    print_status("ours:  ", ours);
+    print_status("trace: ", theirs);
+    return DIFFERS;
+}
+
+static int agrees(const struct replay *run)
+{
+    char words[256];
+    size_t i, changed = 0;
+
+    for (i = 0; i < run->memory.len; i++)
+        changed += run->memory.octets[i] != run->memory_before[i];
+    t24_state_words(run->state.octets, words, sizeof words);
+    printf("all agree: %lu record%s\n",
+           (unsigned long)(run->trace.len / run->size),
+           run->trace.len == run->size ? "" : "s");
+    printf("after:  %s\n", words);
+    printf("memory: %lu of %lu octets changed\n", (unsigned long)changed,
+           (unsigned long)run->memory.len);
+    return AGREES;
+}
+
+/* Piece by piece, each of whole records; a later piece's records count on. */
+static int play(struct replay *run)
+{
+    const size_t piece = PIECE / run->size * run->size;
+    size_t at, len;
+    uint64_t answer = T24_DONE;
+
+    show_progress(run, 0);
+    for (at = 0; at < run->trace.len; at += len) {
+        len = run->trace.len - at < piece ? run->trace.len - at : piece;
+        answer = replay_piece(run, at, len);
+        if (t24_number(answer) != T24_DONE)
+            break;
+        show_progress(run, at + len);
+    }
+    end_progress(run);
+    if (t24_number(answer) == T24_TRACE_DIFFERS)
+        return differs(run, at / run->size + t24_trace_record(answer),
+                       t24_trace_octet(answer));
+    return t24_number(answer) == T24_DONE ? agrees(run) : refused(run, answer);
+}
+
+/* The refusals that need no trace, then its form, then its records. */
+static int replay_all(struct replay *run)
+{
+    const uint64_t answer = replay_piece(run, 0, 0);
+
+    if (t24_number(answer) != T24_DONE)
+        return refused(run, answer);
+    if (run->trace.len == 0) {
+        printf("nothing to replay: the trace has no record\n");
+        return AGREES;
+    }
+    run->l = t24_l(t24_lengths(run->sheet.octets, run->sheet.len));
+    run->size = 1 + 2 * run->l;
+    if (!has_form(run)) /* the library says why, and exchanges nothing */
+        return refused(run, replay_piece(run, 0, run->trace.len));
+    run->memory_before = (uint8_t *)malloc(run->memory.len + 1);
+    if (run->memory_before == NULL) {
+        complain(run->memory.path, "no memory for a copy");
+        return REFUSED;
+    }
+    memcpy(run->memory_before, run->memory.octets, run->memory.len);
+    return play(run);
+}
+
+static int explain_trace(char **paths, int progress)
+{
+    static struct replay run;
+    int status = REFUSED, good;
+
+    good = read_file(&run.sheet, paths[0], T24_SHEET_MAX);
+    good = read_file(&run.state, paths[1], T24_STATE_LEN) && good;
+    good = read_file(&run.memory, paths[2], T24_MEMORY_MAX) && good;
+    good = read_file(&run.trace, paths[3], T24_TRACE_MAX) && good;
+    run.progress = progress || (run.trace.len > PIECE && isatty(STDERR_FILENO));
+    run.shown = 101;
+    if (good)
+        status = replay_all(&run);
+    free(run.sheet.octets);
+    free(run.state.octets);
+    free(run.memory.octets);
+    free(run.trace.octets);
+    free(run.memory_before);
+    return status;
+}
+
+static int usage(FILE *out, int status)
+{
+    fputs(usage_words, out);
+    return status;
+}
+
+int main(int argc, char **argv)
+{
+    int i, names = 0, progress = 0, status;
+
+    for (i = 1; i < argc; i++) {
+        if (strcmp(argv[i], "--help") == 0)
+            return usage(stdout, 0);
+        if (strcmp(argv[i], "--progress") == 0)
+            progress = 1;
+        else
+            argv[names++] = argv[i];
+    }
+    if (names == 2 && strcmp(argv[0], "sheet") == 0)
+        status = explain_sheet(argv[1]);
+    else if (names == 5 && strcmp(argv[0], "trace") == 0)
+        status = explain_trace(argv + 1, progress);
+    else
+        return usage(stderr, REFUSED);
+    if (fflush(stdout) == 0)
+        return status;
+    complain("standard output", strerror(errno));
+    return REFUSED;
+}

@@ -1,0 +1,116 @@
+/*
+ * type24_state_words.h - state records in words (RULES, the state record).
+ * Comes with type24_words.h.
+ */
+#ifndef TYPE24_STATE_WORDS_H
+#define TYPE24_STATE_WORDS_H
+
+#include "type24.h"
+#include "type24_text.h"
+
+/* A link's name (RULES, links). */
+static inline const char *t24_link_words(uint32_t link)
+{
+    switch (link) {
+    case T24_LINK_DISABLED: return "Disabled";
+    case T24_LINK_DISCONNECTED: return "Disconnected";
+    case T24_LINK_ASYNC: return "AsyncConnected";
+    case T24_LINK_SYNC: return "SyncConnected";
+    default: return "not a link";
+    }
+}
+
+/* A state record's ten octets: "link 2 AsyncConnected, command latch 9, ..". */
+static inline size_t t24_state_words(const uint8_t *state, char *text,
+                                     size_t text_len)
+{
+    struct t24_text made = t24_text_in(text, text_len);
+
+    t24_put(&made, "link ");
+    t24_put_decimal(&made, state[T24_AT_LINK]);
+    t24_put_char(&made, ' ');
+    t24_put(&made, t24_link_words(state[T24_AT_LINK]));
+    if (state[T24_AT_DUAL] != 0)
+        t24_put(&made, ", dual transfer");
+    if (state[T24_AT_MN_KNOWN] != 0) {
+        t24_put(&made, ", last MN ");
+        t24_put_decimal(&made, state[T24_AT_LAST_MN]);
+        t24_put(&made, ", RSN ");
+        t24_put_decimal(&made, state[T24_AT_RSN]);
+    }
+    t24_put(&made, ", command latch ");
+    t24_put_decimal(&made, state[T24_AT_COMMAND_ALARM]);
+    t24_put(&made, ", communication latch ");
+    t24_put_decimal(&made, state[T24_AT_COMMUNICATION_ALARM]);
+    return t24_text_end(&made);
+}
+
+/* The first field that is out of its own range, or NULL. */
+static inline const char *t24_state_range_words(const uint8_t *state, size_t l)
+{
+    const uint8_t command = state[T24_AT_COMMAND_ALARM];
+    const uint8_t communication = state[T24_AT_COMMUNICATION_ALARM];
+
+    if (state[T24_AT_KIND] != T24_STATE_KIND)
+        return "octet 0 is not 11 hex";
+    if (state[T24_AT_LINK] > T24_LINK_SYNC)
+        return "octet 1, the link, is not 0 to 3";
+    if (state[T24_AT_L] != l)
+        return "octet 2, L, is not the sheet's";
+    if (state[T24_AT_DUAL] > 1)
+        return "octet 3, dual transfer, is not 0 or 1";
+    if (state[T24_AT_MN_KNOWN] > 1)
+        return "octet 5, MN known, is not 0 or 1";
+    if (state[T24_AT_LAST_MN] > 15)
+        return "octet 6, last MN, is not 0 to 15";
+    if (state[T24_AT_RSN] > 15)
+        return "octet 7, RSN, is not 0 to 15";
+    if (command != T24_ALARM_NONE && command != T24_ALARM_LINK
+        && (command < T24_ALARM_CODE || command > T24_ALARM_RIGHTS))
+        return "octet 8, the command latch, is not 0, 8, 9, 10 or 12";
+    if (communication != T24_ALARM_NONE
+        && communication != T24_ALARM_COMMUNICATION)
+        return "octet 9, the communication latch, is not 0 or 12";
+    return NULL;
+}
+
+/* The first field that does not go with the link, or NULL. */
+static inline const char *t24_state_link_words(const uint8_t *state)
+{
+    const uint8_t link = state[T24_AT_LINK], com_time = state[T24_AT_COM_TIME];
+    const int counts = state[T24_AT_LAST_MN] != 0 || state[T24_AT_RSN] != 0;
+    const int latches = state[T24_AT_COMMAND_ALARM] != 0
+        || state[T24_AT_COMMUNICATION_ALARM] != 0;
+
+    if (link >= T24_LINK_ASYNC && com_time == 0)
+        return "octet 4, com_time, is 0 in link 2 or 3";
+    if (link < T24_LINK_ASYNC && com_time != 0)
+        return "octet 4, com_time, is not 0 in link 0 or 1";
+    if (link != T24_LINK_SYNC && state[T24_AT_DUAL] != 0)
+        return "octet 3, dual transfer, is not 0 outside link 3";
+    if (state[T24_AT_DUAL] != 0 && com_time < 2)
+        return "octet 4, com_time, is below 2 with dual transfer";
+    if (link != T24_LINK_SYNC && (state[T24_AT_MN_KNOWN] != 0 || counts))
+        return "octets 5 to 7, MN and RSN, are not 0 outside link 3";
+    if (state[T24_AT_MN_KNOWN] == 0 && counts)
+        return "octets 6 and 7, MN and RSN, are not 0 while MN is not known";
+    if (link == T24_LINK_DISABLED && latches)
+        return "octets 8 and 9, the latches, are not 0 in link 0";
+    return NULL;
+}
+
+/* Why a state record is not valid under a sheet of this L; "valid" if it is. */
+static inline const char *t24_state_fault_words(const uint8_t *state,
+                                                size_t state_len, size_t l)
+{
+    const char *words;
+
+    if (state_len != T24_STATE_LEN)
+        return "it has not 10 octets";
+    words = t24_state_range_words(state, l);
+    if (words == NULL)
+        words = t24_state_link_words(state);
+    return words == NULL ? "valid" : words;
+}
+
+#endif

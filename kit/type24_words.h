@@ -1,0 +1,133 @@
+/*
+ * type24_words.h - what a fitter wants to read, in words: the fault of a sheet
+ * or a trace, a command, a status, a state record, an octet of a reply.
+ *
+ * A host includes this header where it wants them; type24.h comes with it, and
+ * nothing of the C library is needed.  Functions with text and text_len write
+ * at most text_len octets, the last of them a zero, and tell how long the whole
+ * text is without it, as snprintf does; text_len may be 0.
+ *
+ *   t24_sheet_words        an answer about a sheet     type24_sheet_words.h
+ *   t24_state_words        a state record              type24_state_words.h
+ *   t24_state_fault_words  why T24_BAD_STATE           type24_state_words.h
+ *   t24_command_words      a command                   type24_pdu_words.h
+ *   t24_octet_words        an octet of a reply         type24_pdu_words.h
+ *   t24_status_words       a reply's status            here
+ *   t24_trace_words        an answer of t24_replay     here
+ */
+#ifndef TYPE24_WORDS_H
+#define TYPE24_WORDS_H
+
+#include "type24.h"
+#include "type24_pdu_words.h"
+#include "type24_sheet_words.h"
+#include "type24_state_words.h"
+#include "type24_text.h"
+
+/*
+ * The status of a reply (RULES, status and RWDT), of which octets 2 and 3 are
+ * read.  Without an alarm it is "accepted", but not while the communication
+ * latch is set: the command may be the one that was not executed.
+ */
+static inline size_t t24_status_words(const uint8_t *reply, char *text,
+                                      size_t text_len)
+{
+    const uint32_t alarm = t24_reply_alarm(reply);
+    const uint32_t latch = t24_reply_communication_alarm(reply);
+    const uint8_t low = reply[T24_REPLY_AT_STATUS];
+    struct t24_text made = t24_text_in(text, text_len);
+
+    if (alarm == T24_ALARM_NONE && latch == T24_ALARM_NONE) {
+        t24_put(&made, "accepted");
+    } else {
+        t24_put(&made, "alarm ");
+        t24_put_decimal(&made, alarm);
+        t24_put(&made, ", ");
+        t24_put(&made, alarm == 0 ? "none" : t24_alarm_words(alarm));
+    }
+    if (latch != T24_ALARM_NONE) {
+        t24_put(&made, "; communication latch ");
+        t24_put_decimal(&made, latch);
+        t24_put(&made, ", ");
+        t24_put(&made, t24_communication_words(latch));
+    }
+    if ((low & T24_STATUS_LATCHED) != 0)
+        t24_put(&made, "; a latch is set");
+    if ((low & T24_STATUS_ALWAYS) == 0)
+        t24_put(&made, "; bit 2 is 0, must be 1");
+    if ((low & ~(T24_STATUS_LATCHED | T24_STATUS_ALWAYS)) != 0)
+        t24_put(&made, "; bits 1 and 3 to 7 are not 0");
+    return t24_text_end(&made);
+}
+
+/* The L of a kind of trace records; 0 for an unknown kind. */
+static inline size_t t24_trace_l(uint8_t kind)
+{
+    switch (kind) {
+    case T24_TRACE_8: return T24_L8;
+    case T24_TRACE_16: return T24_L16;
+    case T24_TRACE_32: return T24_L32;
+    case T24_TRACE_48: return T24_L48;
+    case T24_TRACE_64: return T24_L64;
+    default: return 0;
+    }
+}
+
+/* 31 to 33: what is wrong with a record, of which so many octets are left. */
+static inline int t24_say_record(struct t24_text *text, const uint8_t *trace,
+                                 size_t left, size_t l, uint32_t number)
+{
+    const size_t its_l = t24_trace_l(trace[0]);
+
+    if (number == T24_TRACE_KIND && its_l == 0) {
+        t24_put(text, "kind ");
+        t24_put_hex(text, trace[0], 2);
+        t24_put(text, " is unknown: a record begins with 21 to 25");
+    } else if (number == T24_TRACE_L && its_l != 0 && its_l != l) {
+        t24_put(text, "kind ");
+        t24_put_hex(text, trace[0], 2);
+        t24_put(text, " has L ");
+        t24_put_decimal(text, its_l);
+        t24_put(text, ", the sheet ");
+        t24_put_decimal(text, l);
+    } else if (number == T24_TRACE_CUT && its_l == l && left < 1 + 2 * l) {
+        t24_put_missing(text, left, 1 + 2 * l);
+    } else {
+        return 0;
+    }
+    return 1;
+}
+
+/*
+ * An answer of t24_replay under a sheet of this L in words: for 31 to 33
+ * "33 at octet 66: record 2: 3 of its 33 octets are missing", for others the
+ * number and t24_words().
+ */
+static inline size_t t24_trace_words(const uint8_t *trace, size_t trace_len,
+                                     size_t l, uint64_t answer, char *text,
+                                     size_t text_len)
+{
+    const uint32_t number = t24_number(answer), place = t24_place(answer);
+    struct t24_text made = t24_text_in(text, text_len);
+
+    t24_put_decimal(&made, number);
+    if (number < T24_TRACE_KIND || number > T24_TRACE_CUT) {
+        t24_put(&made, ": ");
+        t24_put(&made, t24_words(number));
+        return t24_text_end(&made);
+    }
+    t24_put(&made, " at octet ");
+    t24_put_decimal(&made, place);
+    t24_put(&made, ": record ");
+    t24_put_decimal(&made, place / (1 + 2 * l));
+    t24_put(&made, ": ");
+    if (place >= trace_len
+        || !t24_say_record(&made, trace + place, trace_len - place, l,
+                           number)) {
+        t24_put(&made, t24_words(number));
+        t24_put(&made, "; but not in these octets");
+    }
+    return t24_text_end(&made);
+}
+
+#endif
