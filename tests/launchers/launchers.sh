@@ -108,9 +108,8 @@ test_replayer_explained() {
     refusal="refused: 11, sheet cut short or over 2048 octets, at octet 32 of the sheet"
     expect "replayer with a refused sheet" 2 "$refusal" "" "$replayer" faulty.bin state.bin memory.bin trace.bin
     stand_in 1
-    expect "replayer where a record differs, explained" 1 "$DIFFERENCE
-explain trace
-of sheet.bin state.bin memory.bin changed.bin" "" "$replayer" sheet.bin state.bin memory.bin changed.bin
+    expect "replayer where a record differs, explained" 1 "explain trace" "of sheet.bin state.bin memory.bin changed.bin" \
+        "$replayer" sheet.bin state.bin memory.bin changed.bin
     expect "replayer where t24-explain disagrees" 2 "$refusal
 explain sheet
 of faulty.bin" "replayer: t24-explain ended with 1, expected 2" "$replayer" faulty.bin state.bin memory.bin trace.bin
@@ -118,6 +117,11 @@ of faulty.bin" "replayer: t24-explain ended with 1, expected 2" "$replayer" faul
     expect "replayer with a refused sheet, explained" 2 "$refusal
 explain sheet
 of faulty.bin" "" "$replayer" faulty.bin state.bin memory.bin trace.bin
+    expect "replayer where t24-explain finds no difference" 1 "$DIFFERENCE" "of sheet.bin state.bin memory.bin changed.bin
+replayer: t24-explain ended with 2, expected 1" "$replayer" sheet.bin state.bin memory.bin changed.bin
+    stand_in 0
+    expect "replayer where all agree, explained" 0 "explain trace" "of sheet.bin state.bin memory.bin trace.bin" \
+        "$replayer" sheet.bin state.bin memory.bin trace.bin
     rm "$work/dist/bin/t24-explain"
 }
 
