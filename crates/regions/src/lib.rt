@@ -5,7 +5,7 @@ pub mod search; // search.rt: one octet's place and rights, and the searches ove
 ghost use mathlib.Core.Path.{_≡_};
 ghost use Prim.Native.Nat.{_+_, _≤_};
 ghost use lib.ListN.{length};
-ghost use Rattle.regions.specs.Region.{regionFrom, holdsOf, givesOf};
+ghost use Rattle.regions.specs.Region.{regionFrom, givesOf};
 
 // What a region record says behind its kind octet.
 pub struct Region {
@@ -32,15 +32,6 @@ pub fn region_in(sheet: &[u8], at: usize) -> Region
         length: octets::le4(sheet[at + 5], sheet[at + 6], sheet[at + 7], sheet[at + 8]),
         rights: sheet[at + 9],
     }
-}
-
-// Whether a region has the octet at an address.
-pub fn holds(region: Region, address: u64) -> bool
-    ensures { λ r. ⌜ r ≡ holdsOf region address ⌝ }
-{
-    let start = region.start as u64;
-    let length = region.length as u64;
-    (start <= address) & (address < start + length)
 }
 
 // Whether a rights octet gives the right.
