@@ -1,7 +1,7 @@
 -- A command's fields, each by the octets where it stands.
 use mathlib.Core.Path.{_≡_, refl}
 use mathlib.Core.List.{List}
-use Prim.Native.Nat.{ℕ}
+use Prim.Native.Nat.{ℕ, _/_}
 use lib.ListN.{getD}
 use Rattle.octets.specs.Numbers.{le2At, le4At}
 use Rattle.machine.specs.declared.words.Command.{Command}
@@ -12,6 +12,7 @@ abbrev pub named : ℕ → List ℕ → Command
 named code c = record {
   code = code;
   wdt = getD c 1 0;
+  identity = getD c 2 0 / 64;
   number = le2At c 4;
   size = getD c 6 0;
   item = getD c 4 0;

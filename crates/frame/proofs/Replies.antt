@@ -21,26 +21,26 @@ use Rattle.frame.proofs.Bodies.{bodyAt, body-behind, body-told}
 -- head and body, built one after the other, are the reply
 module _ (sheet memory command reply : List ℕ) (o : Outcome) (c : Command) (begun built : List ℕ) where
   pub built-reply : c ≡ commandOf command → length reply ≡ length command
-      → begun ≡ putAt (replicate (length reply) 0) 0 (headOf (c .code) (c .wdt) (o .alarm) (o .next))
+      → begun ≡ putAt (replicate (length reply) 0) 0 (headOf (c .code) (c .wdt) (c .identity) (o .alarm) (o .next))
       → built ≡ bodyOf (o .effect) sheet memory command begun → built ≡ replyOf sheet memory command o
   unfolding replyOf
   built-reply read lent first body =
       body
       ∙ ap (bodyOf (o .effect) sheet memory command)
       (first
-      ∙ ap (λ (n : ℕ). putAt (replicate n 0) 0 (headOf (c .code) (c .wdt) (o .alarm) (o .next))) lent
-      ∙ ap (λ (x : Command). putAt (replicate (length command) 0) 0 (headOf (x .code) (x .wdt) (o .alarm) (o .next))) read)
+      ∙ ap (λ (n : ℕ). putAt (replicate n 0) 0 (headOf (c .code) (c .wdt) (c .identity) (o .alarm) (o .next))) lent
+      ∙ ap (λ (x : Command). putAt (replicate (length command) 0) 0 (headOf (x .code) (x .wdt) (x .identity) (o .alarm) (o .next))) read)
 
 -- the status word's two octets
-low : (b : Bool) (alarm latch : ℕ) → (pick b 0 1 + 4 + 256 * (alarm % 16) + 4096 * (latch % 16)) % 256 ≡ 4 + pick b 0 1
+low : (b : Bool) (identity alarm latch : ℕ) → (pick b 0 1 + 4 + 64 * (identity % 4) + 256 * (alarm % 16) + 4096 * (latch % 16)) % 256 ≡ 4 + pick b 0 1 + 64 * (identity % 4)
 unfolding pick
-low true alarm latch = omega arith
-low false alarm latch = omega arith
+low true identity alarm latch = omega arith
+low false identity alarm latch = omega arith
 
-high : (b : Bool) (alarm latch : ℕ) → alarm < 16 → latch < 16 → (pick b 0 1 + 4 + 256 * (alarm % 16) + 4096 * (latch % 16)) / 256 ≡ alarm + 16 * latch
+high : (b : Bool) (identity alarm latch : ℕ) → alarm < 16 → latch < 16 → (pick b 0 1 + 4 + 64 * (identity % 4) + 256 * (alarm % 16) + 4096 * (latch % 16)) / 256 ≡ alarm + 16 * latch
 unfolding pick
-high true alarm latch a l = omega arith
-high false alarm latch a l = omega arith
+high true identity alarm latch a l = omega arith
+high false identity alarm latch a l = omega arith
 
 rwdt : (b : Bool) (rsn mn : ℕ) → rsn < 16 → pick b (16 * (rsn % 16) + mn) 0 ≡ pick b (16 * rsn + mn) 0
 unfolding pick
@@ -49,7 +49,7 @@ rwdt false rsn mn l = refl
 
 module _ (sheet m c : List ℕ) (o : Outcome) (long : 8 ≤ length c) (fits : Fitting (o .effect) (length c) (length m) (length sheet)) where
   abbrev head : List ℕ
-  head = headOf (commandOf c .code) (commandOf c .wdt) (o .alarm) (o .next)
+  head = headOf (commandOf c .code) (commandOf c .wdt) (commandOf c .identity) (o .alarm) (o .next)
 
   abbrev begun : List ℕ
   begun = putAt (replicate (length c) 0) 0 head
@@ -90,14 +90,15 @@ module _ (sheet m c : List ℕ) (o : Outcome) (long : 8 ≤ length c) (fits : Fi
   unfolding headOf rwdtOf
   rwdt-told small = head-at 1 (omega arith) ∙ rwdt (eqb (o .next .link) 3) (o .next .watch .rsn) (commandOf c .wdt % 16) small
 
-  -- the status: whether a latch is set, then the alarm and the communication latch
-  pub latched-told : getD reply 2 0 ≡ 4 + pick (eqb (o .next .latches .command) 0 && eqb (o .next .latches .communication) 0) 0 1
+  -- the status: whether a latch is set, with the command's identity; then the alarm and the communication latch
+  pub latched-told : getD reply 2 0
+      ≡ 4 + pick (eqb (o .next .latches .command) 0 && eqb (o .next .latches .communication) 0) 0 1 + 64 * (commandOf c .identity % 4)
   unfolding headOf statusOf
-  latched-told = head-at 2 (omega arith) ∙ low (eqb (o .next .latches .command) 0 && eqb (o .next .latches .communication) 0) (o .alarm) (o .next .latches .communication)
+  latched-told = head-at 2 (omega arith) ∙ low (eqb (o .next .latches .command) 0 && eqb (o .next .latches .communication) 0) (commandOf c .identity) (o .alarm) (o .next .latches .communication)
 
   pub alarm-told : o .alarm < 16 → o .next .latches .communication < 16 → getD reply 3 0 ≡ o .alarm + 16 * o .next .latches .communication
   unfolding headOf statusOf
-  alarm-told a l = head-at 3 (omega arith) ∙ high (eqb (o .next .latches .command) 0 && eqb (o .next .latches .communication) 0) (o .alarm) (o .next .latches .communication) a l
+  alarm-told a l = head-at 3 (omega arith) ∙ high (eqb (o .next .latches .command) 0 && eqb (o .next .latches .communication) 0) (commandOf c .identity) (o .alarm) (o .next .latches .communication) a l
 
   -- the body, octet by octet
   pub body-at : (k : ℕ) → 4 ≤ k → k < length c → getD reply k 0 ≡ bodyAt (o .effect) sheet m c k 0

@@ -48,7 +48,7 @@ bodyOf Connects sheet memory command reply = echoed command 4 4 reply
 unfoldable pub replyOf : List ℕ → List ℕ → List ℕ → Outcome → List ℕ
 replyOf sheet memory command o =
     bodyOf (o .effect) sheet memory command
-    (putAt (replicate (length command) 0) 0 (headOf (commandOf command .code) (commandOf command .wdt) (o .alarm) (o .next)))
+    (putAt (replicate (length command) 0) 0 (headOf (commandOf command .code) (commandOf command .wdt) (commandOf command .identity) (o .alarm) (o .next)))
 
 -- the memory after an effect: a write's own octets at its place, and no others
 unfoldable pub memoryAfter : Effect → List ℕ → List ℕ → List ℕ

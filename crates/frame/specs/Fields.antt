@@ -1,6 +1,6 @@
 -- Where a command's fields stand. Document 01: "octet 0 code, octet 1 WDT (low half MN, high half SN), octets 2 and 3 control, ignored", and the
--- octets that the table names for each code. An octet past the command's end counts as 0.
-use Prim.Native.Nat.{ℕ}
+-- octets that the table names for each code; request 1: bits 6 and 7 of octet 2 are the command's identity. An octet past the command's end counts as 0.
+use Prim.Native.Nat.{ℕ, _/_}
 use mathlib.Core.List.{List}
 use lib.ListN.{getD}
 use Rattle.octets.specs.Numbers.{le2At, le4At}
@@ -10,6 +10,7 @@ unfoldable pub commandOf : List ℕ → Command
 commandOf c = record {
   code = getD c 0 0;
   wdt = getD c 1 0;
+  identity = getD c 2 0 / 64;
   number = le2At c 4;
   size = getD c 6 0;
   item = getD c 4 0;

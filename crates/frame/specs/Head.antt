@@ -11,12 +11,13 @@ unfoldable pub rwdtOf : ℕ → LinkState → ℕ
 rwdtOf wdt next = pick (eqb (next .link) 3) (16 * (next .watch .rsn % 16) + wdt % 16) 0
 
 -- "Status bit 0 is set if a latch is nonzero after the exchange; bit 2 is always set; bits 8 to 11 are this command's alarm ..; bits 12 to 15 the
--- communication latch after the exchange; the rest 0"
-unfoldable pub statusOf : ℕ → LinkState → ℕ
-statusOf alarm next =
+-- communication latch after the exchange; the rest 0"; request 1: the command's identity comes back in bits 6 and 7
+unfoldable pub statusOf : ℕ → ℕ → LinkState → ℕ
+statusOf identity alarm next =
     pick (eqb (next .latches .command) 0 && eqb (next .latches .communication) 0) 0 1
-    + 4 + 256 * (alarm % 16) + 4096 * (next .latches .communication % 16)
+    + 4 + 64 * (identity % 4) + 256 * (alarm % 16) + 4096 * (next .latches .communication % 16)
 
 -- the four octets; the status is a number of two octets, low octet first
-unfoldable pub headOf : ℕ → ℕ → ℕ → LinkState → List ℕ
-headOf code wdt alarm next = code ∷ rwdtOf wdt next ∷ statusOf alarm next % 256 ∷ statusOf alarm next / 256 ∷ []
+unfoldable pub headOf : ℕ → ℕ → ℕ → ℕ → LinkState → List ℕ
+headOf code wdt identity alarm next =
+    code ∷ rwdtOf wdt next ∷ statusOf identity alarm next % 256 ∷ statusOf identity alarm next / 256 ∷ []

@@ -14,6 +14,7 @@ pub fn command_of(command: &[u8]) -> Command
     Command {
         code: octets::octet(command, 0),
         wdt: octets::octet(command, 1),
+        identity: octets::octet(command, 2) / 64,
         number: octets::le2(four, five),
         size: six,
         item: four,

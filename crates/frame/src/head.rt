@@ -15,23 +15,24 @@ fn rwdt(wdt: u8, next: LinkState) -> u8
     0
 }
 
-fn status(alarm: u8, next: LinkState) -> u16
-    ensures { λ r. ⌜ r ≡ statusOf alarm next ⌝ }
+fn status(identity: u8, alarm: u8, next: LinkState) -> u16
+    ensures { λ r. ⌜ r ≡ statusOf identity alarm next ⌝ }
 {
+    let echo = 64 * ((identity % 4) as u16);
     let high = 256 * ((alarm % 16) as u16) + 4096 * ((next.latches.communication % 16) as u16);
     if (next.latches.command == 0) & (next.latches.communication == 0) {
-        return 0 + 4 + high;
+        return 0 + 4 + echo + high;
     }
-    1 + 4 + high
+    1 + 4 + echo + high
 }
 
 // The head over a reply of zeros: no old octet stays.
-pub fn head(reply: &mut [u8], code: u8, wdt: u8, alarm: u8, next: LinkState)
+pub fn head(reply: &mut [u8], code: u8, wdt: u8, identity: u8, alarm: u8, next: LinkState)
     requires { ⌜ 4 ≤ length (now reply) ⌝ }
-    ensures { λ _. ⌜ now (reply .exit) ≡ putAt (replicate (length (now (reply .entry))) 0) 0 (headOf code wdt alarm next) ⌝ }
+    ensures { λ _. ⌜ now (reply .exit) ≡ putAt (replicate (length (now (reply .entry))) 0) 0 (headOf code wdt identity alarm next) ⌝ }
 {
     octets::zero(reply);
-    let word = status(alarm, next);
+    let word = status(identity, alarm, next);
     reply[0] = code;
     reply[1] = rwdt(wdt, next);
     reply[2] = (word % 256) as u8;

@@ -3,7 +3,7 @@ use mathlib.Core.Bool.{Bool, true, false, _&&_, _||_}
 use mathlib.Core.Logic.{⊎-elim}
 use mathlib.Core.Path.{_≡_, refl, sym, ap, ap₂, _∙_}
 use mathlib.Core.List.{List, [], _∷_}
-use Prim.Native.Nat.{ℕ, zero, suc, _+_, _-_, _*_, _%_, _≤_, _<_}
+use Prim.Native.Nat.{ℕ, zero, suc, _+_, _-_, _*_, _/_, _%_, _≤_, _<_}
 use native.Mathlib.Omega.{arith}
 use borrow.Author.Tests.{ltb-true, eqb-true, ne-eqb}
 use lib.Dec.{eqb, ltb}
@@ -106,7 +106,8 @@ module _ (h : Sheet) (sheet : List ℕ) (st : LinkState) (m c : List ℕ) (o : O
       ∙ picked (eqb (o .next .link) 3) (16 * o .next .watch .rsn + getD c 1 0 % 16) 0
   in-head (suc (suc zero)) l =
       latched-told sheet m c o long-enough fits
-      ∙ ap (λ (x : ℕ). 4 + x) (picked (eqb (o .next .latches .command) 0 && eqb (o .next .latches .communication) 0) 0 1)
+      ∙ ap (λ (x : Command). 4 + pick (eqb (o .next .latches .command) 0 && eqb (o .next .latches .communication) 0) 0 1 + 64 * (x .identity % 4)) (command-named c)
+      ∙ ap (λ (x : ℕ). 4 + x + 64 * (getD c 2 0 / 64 % 4)) (picked (eqb (o .next .latches .command) 0 && eqb (o .next .latches .communication) 0) 0 1)
   in-head (suc (suc (suc zero))) l =
       let alarm = same .alarm in
       alarm-told sheet m c o long-enough fits (omega arith) (small-latch (o .next .latches .communication) (v .communication))

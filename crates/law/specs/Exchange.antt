@@ -1,5 +1,5 @@
 -- "One exchange": what every exchange does around the table.
-use Prim.Native.Nat.{ℕ, _+_, _*_, _%_}
+use Prim.Native.Nat.{ℕ, _+_, _*_, _/_, _%_}
 use mathlib.Core.Bool.{Bool, not, _&&_}
 use mathlib.Core.List.{List, [], _∷_}
 use lib.Dec.{eqb}
@@ -9,7 +9,7 @@ use Rattle.law.specs.Sheet.{Sheet}
 use Rattle.law.specs.State.{link, mnKnown, lastMn, rsn, commandLatch, communicationLatch}
 use Rattle.law.specs.Table.{Check, check, Row, table}
 
--- "Command: octet 0 code, octet 1 WDT (low half MN, high half SN), octets 2 and 3 control, ignored."
+-- "Command: octet 0 code, octet 1 WDT (low half MN, high half SN), octets 2 and 3 control, ignored", but for request 1
 abbrev pub mn : List ℕ → ℕ
 mn c = octet c 1 % 16
 
@@ -69,8 +69,9 @@ abbrev pub headFor : List ℕ → ℕ → List ℕ → List ℕ
 headFor c alarm t =
     -- "RWDT is 16 times the new RSN plus the command's MN if the link afterwards is 3, else 0."
     let rwdt = when (eqb (link t) 3) (16 * rsn t + mn c) 0 in
-    -- "Status bit 0 is set if a latch is nonzero after the exchange; bit 2 is always set"
-    let low = 4 + when (eqb (commandLatch t) 0 && eqb (communicationLatch t) 0) 0 1 in
+    -- "Status bit 0 is set if a latch is nonzero after the exchange; bit 2 is always set"; request 1: "Bits 6 and 7 of command octet 2 shall come back in
+    -- those bits of reply octet 2, in every built reply."
+    let low = 4 + when (eqb (commandLatch t) 0 && eqb (communicationLatch t) 0) 0 1 + 64 * (octet c 2 / 64 % 4) in
     -- "bits 8 to 11 are this command's alarm, 0 if accepted; bits 12 to 15 the communication latch after the exchange; the rest 0"
     let high = alarm + 16 * communicationLatch t in
     octet c 0 ∷ rwdt ∷ low ∷ high ∷ []

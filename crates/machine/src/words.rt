@@ -5,6 +5,7 @@ use link::state::LinkState;
 pub struct Command {
     pub code: u8,
     pub wdt: u8,
+    pub identity: u8,
     pub number: u16,
     pub size: u8,
     pub item: u8,

@@ -49,7 +49,7 @@ fn build(
     let outcome = machine::outcome::outcome(sheet, layout, st, c);
     let effect = outcome.effect;
     let next = outcome.next;
-    frame::head::head(reply, c.code, c.wdt, outcome.alarm, next);
+    frame::head::head(reply, c.code, c.wdt, c.identity, outcome.alarm, next);
     frame::body::fill_body(effect, sheet, memory, command, reply);
     outcome
 }

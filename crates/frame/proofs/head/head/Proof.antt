@@ -26,7 +26,7 @@ returns c =
     let a = c .before .before .before .before .before .before .before .args in
     let z = c .before .before .before .before .zero .last .0 in
     let vs = a .code ∷ c .rwdt .result ∷ c .before .status .result % 256 ∷ c .before .status .result / 256 ∷ [] in
-    let head : vs ≡ headOf (a .code) (a .wdt) (a .alarm) (a .next) = rw (c .rwdt .ensures, c .before .status .ensures) in
+    let head : vs ≡ headOf (a .code) (a .wdt) (a .identity) (a .alarm) (a .next) = rw (c .rwdt .ensures, c .before .status .ensures) in
     sets-eq vs z 0 (omega arith) ∙ ap₂ (λ (x y : List ℕ). putAt x 0 y) (c .before .before .before .before .zero .ensures) head
 
 pub head-spec : {M : Type 1} → statement M
