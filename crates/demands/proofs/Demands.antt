@@ -1,7 +1,7 @@
 -- The owner's page, proved.
 use Rattle.law.proofs.ByTables.{by-tables, one-reading}
 use Rattle.law.proofs.Promises.{promises}
-use Rattle.demands.specs.Demands.{FirstDemand, SecondDemand, ThirdDemand, IdlePrograms, OnTheBench, Request6}
+use Rattle.demands.specs.Demands.{FirstDemand, SecondDemand, ThirdDemand, IdlePrograms, OnTheBench, Request1, Request6}
 use Rattle.demands.proofs.Agreed.{traces-have-replies, agrees-exactly}
 use Rattle.demands.proofs.Alone.{refuses-all-keeps-secrets, single-reply-keeps-secrets, stores-nothing-keeps-secrets, echoes-afterwards-keeps-secrets, invents-rsn-keeps-secrets, invents-rsn-agrees-where-reached}
 use Rattle.demands.proofs.Bench.{sheet-p-is-valid, bench-cases}
@@ -9,6 +9,7 @@ use Rattle.demands.proofs.Cut.{cut-in-two}
 use Rattle.demands.proofs.CutWhole.{forms-join, replay-cut-in-two}
 use Rattle.demands.proofs.Exact.{acceptance-is-exact, rights-over-whole-span}
 use Rattle.demands.proofs.Folded.{replay-is-fold}
+use Rattle.demands.proofs.Identity.{identity-comes-back, control-is-ignored}
 use Rattle.demands.proofs.Histories.{history-is-run}
 use Rattle.demands.proofs.LawBench.{bench-by-law}
 use Rattle.demands.proofs.OnTheWire.{refused-on-the-wire}
@@ -54,6 +55,9 @@ idle-programs = record {
 
 pub on-the-bench : OnTheBench
 on-the-bench = record { sheet-p = sheet-p-is-valid; cases = bench-cases; cases-by-the-law = bench-by-law }
+
+pub request-1 : Request1
+request-1 = record { the-identity-comes-back = identity-comes-back; control-is-ignored = control-is-ignored }
 
 pub request-6 : Request6
 request-6 = record {

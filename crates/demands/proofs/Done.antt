@@ -1,13 +1,14 @@
 -- An answered exchange is the law's, and what a host reads in what it leaves.
 --     answered-done                               what is left, by the law
 --     seen-whole, seen-code, seen-alarm           the reply's length, code and alarm
+--     seen-identity                               the command's identity in the reply
 --     seen-zero                                   without a body all octets from 4 on are 0
 --     seen-link                                   the link afterwards is what the command made of it
-use mathlib.Core.Bool.{Bool, true, false}
+use mathlib.Core.Bool.{Bool, true, false, _&&_}
 use mathlib.Core.Logic.{⊎-elim}
 use mathlib.Core.Path.{_≡_, sym, ap, _∙_}
 use mathlib.Core.List.{List, [], _∷_}
-use Prim.Native.Nat.{ℕ, _+_, _*_, _%_, _≤_, _<_}
+use Prim.Native.Nat.{ℕ, _+_, _*_, _/_, _%_, _≤_, _<_}
 use native.Mathlib.Omega.{arith}
 use lib.Dec.{eqb}
 use lib.ListN.{length, getD, replicate, length-replicate, getD-replicate, List·getD-eq-default}
@@ -18,7 +19,7 @@ use Rattle.slave.specs.Exchange.{left, exchanged, exchangeOf}
 use Rattle.replay.proofs.Steps.{is-exchanged}
 use Rattle.law.specs.Words.{Every, when, octet, Piece, piece, laid, over}
 use Rattle.law.specs.Sheet.{Sheet, FiveLengths, sheetOctets}
-use Rattle.law.specs.State.{link, rsn, communicationLatch}
+use Rattle.law.specs.State.{link, rsn, commandLatch, communicationLatch}
 use Rattle.law.specs.Exchange.{Fate, mn, fateOf, watched, stateAfter, headFor, replyFor}
 use Rattle.law.specs.Calls.{Result, done}
 use Rattle.law.proofs.Calls.{leaves, done-same}
@@ -27,6 +28,7 @@ use Rattle.law.proofs.Complete.{complete}
 use Rattle.law.proofs.Laid.{over-length, over-at, laid-before, lies-past}
 use Rattle.law.proofs.Layouts.{layoutFor}
 use Rattle.demands.specs.Answered.{Answered, alarmIn}
+use Rattle.demands.specs.Identity.{identityIn}
 use Rattle.demands.proofs.Fates.{fate-body, fate-small}
 
 pub least-length : (l : ℕ) → FiveLengths l → 8 ≤ l
@@ -84,6 +86,19 @@ module _ (h : Sheet) (s m c : List ℕ) (long : 8 ≤ h .l) where
   pub seen-code : getD (lawful h s m c .reply) 0 0 ≡ octet c 0
   unfolding laid when
   seen-code = seen-head 0 (omega arith)
+
+  bit-small : (b : Bool) → when b 0 1 ≤ 1
+  unfolding when
+  bit-small true = omega arith
+  bit-small false = omega arith
+
+  pub seen-identity : identityIn (lawful h s m c .reply) ≡ identityIn c
+  unfolding laid when
+  seen-identity =
+      let b = eqb (commandLatch t) 0 && eqb (communicationLatch t) 0 in
+      let u = bit-small b in
+      ap (λ (x : ℕ). x / 64 % 4) (seen-head 2 (omega arith))
+      ∙ (let e : (4 + when b 0 1 + 64 * (octet c 2 / 64 % 4)) / 64 % 4 ≡ octet c 2 / 64 % 4 = omega arith in e)
 
   pub seen-alarm : alarmIn (lawful h s m c .reply) ≡ f .alarm
   unfolding laid when

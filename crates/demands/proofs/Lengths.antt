@@ -29,7 +29,7 @@ module _ (sheet memory command reply : List ℕ) (lay : Layout) (st : LinkState)
   abbrev o : Outcome
   o = outcomeOf sheet lay st (commandOf command)
 
-  fits : Fitting (o .effect) (length command) (length memory) (length sheet)
+  pub fits : Fitting (o .effect) (length command) (length memory) (length sheet)
   fits =
       let r = no-refusal lay st (length memory) (length command) (length reply) free in
       subst₂ (λ (c m : ℕ). Fitting (o .effect) c m (length sheet)) (sym (r .1)) (sym (r .0)) (outcome-fits sheet lay (valid-sheet sheet lay v) st (commandOf command))

@@ -11,6 +11,7 @@ pub mod Owned
 pub mod Shown
 pub mod Secrets
 pub mod Lengths
+pub mod Identity
 pub mod Shut
 pub mod Replays
 pub mod Agreed

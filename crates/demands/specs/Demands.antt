@@ -15,6 +15,7 @@ use Rattle.slave.specs.Exchange.{Left}
 use Rattle.demands.specs.Accepted.{AcceptanceIsExact, RightsOverWholeSpan}
 use Rattle.demands.specs.Bench.{SheetPIsValid, BenchCases}
 use Rattle.demands.specs.Hidden.{Demand3}
+use Rattle.demands.specs.Identity.{IdentityComesBack, ControlIsIgnored}
 use Rattle.demands.specs.Idle.{Demand2, KeepsSecrets, AgreesWhereReached, refusesAll, singleReply, storesNothing, echoesAfterwards, inventsRsn}
 use Rattle.demands.specs.LawBench.{BenchByLaw}
 use Rattle.demands.specs.OnTheWire.{RefusedOnTheWire}
@@ -68,6 +69,13 @@ pub record OnTheBench : Type 0 where
   pub sheet-p : SheetPIsValid
   pub cases : BenchCases
   pub cases-by-the-law : BenchByLaw
+
+-- Document 02, request 1, "Echo the command's identity": "Bits 6 and 7 of command octet 2 shall come back in those bits of reply octet 2, in every built
+-- reply. .. Demands 2 and 3 read with it; bench replies stay." Demands 1 to 3 and the bench cases above are of the machine with it.
+pub record Request1 : Type 0 where
+  pub the-identity-comes-back : IdentityComesBack
+  -- of octets 2 and 3 nothing else shows: answers, states and memories are the same, and the replies differ in those two bits alone
+  pub control-is-ignored : ControlIsIgnored
 
 -- Document 02, request 6, "Replay the fitter's trace", of the replay as it is defined.
 pub record Request6 : Type 0 where

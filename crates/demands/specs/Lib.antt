@@ -8,6 +8,7 @@ pub mod OnTheWire
 pub mod Writes
 pub mod Hidden
 pub mod Idle
+pub mod Identity
 pub mod Replays
 pub mod Unique
 pub mod Bench

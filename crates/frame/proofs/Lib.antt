@@ -4,3 +4,4 @@ pub mod Rooms
 pub mod Kept
 pub mod Bodies
 pub mod Replies
+pub mod Alike

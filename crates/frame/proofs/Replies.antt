@@ -73,7 +73,7 @@ module _ (sheet m c : List ℕ) (o : Outcome) (long : 8 ≤ length c) (fits : Fi
   unfolding replyOf
   reply-at k = body-told sheet m c begun (sym begun-length) (o .effect) fits-begun .1 k
 
-  head-at : (k : ℕ) → k < 4 → getD reply k 0 ≡ getD head k 0
+  pub head-at : (k : ℕ) → k < 4 → getD reply k 0 ≡ getD head k 0
   unfolding headOf
   head-at k l =
       let e = length-replicate {A = ℕ} (length c) 0 in

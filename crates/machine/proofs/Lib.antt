@@ -1,2 +1,3 @@
 -- The laws of the machine.
 pub mod Nexts
+pub mod Alike
