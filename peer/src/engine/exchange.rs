@@ -10,6 +10,8 @@ const LONGEST: usize = 64;
 const LATCHED: u8 = 1;
 /// Status bit 2: ready for a new command.
 const READY: u8 = 4;
+/// Bits 6 and 7 of octet 2, by which a master tells the replies to a repeated command apart.
+const IDENTITY: u8 = 0xC0;
 
 /// What an exchange leaves behind, once it is stored.
 pub struct Outcome {
@@ -100,7 +102,7 @@ fn connect(before: State, com_mod: u8, com_time: u8) -> State {
     }
 }
 
-/// Code, RWDT and status.
+/// Code, RWDT and status; every reply gets its head here, so the identity is echoed in each.
 fn write_head(outcome: &mut Outcome, command: &[u8], alarm: u8) {
     let state = &outcome.state;
     let reply = &mut outcome.reply;
@@ -109,6 +111,7 @@ fn write_head(outcome: &mut Outcome, command: &[u8], alarm: u8) {
         let rsn = state.counters.map_or(0, |counters| counters.rsn);
         reply[1] = rsn << 4 | command[1] & 15;
     }
-    reply[2] = READY | if state.latched() { LATCHED } else { 0 };
+    let latched = if state.latched() { LATCHED } else { 0 };
+    reply[2] = READY | latched | command[2] & IDENTITY;
     reply[3] = state.communication_latch << 4 | alarm;
 }
