@@ -27,7 +27,7 @@ static void mark_call(const char *call, uint64_t answer)
 }
 
 /* An exchange that was answered: a lost cycle, or its code with the alarm, and
- * its L if it was an accepted read. */
+ * its L if it was an accepted read; and the identity that came back. */
 static void mark_exchange(const uint8_t *command, const uint8_t *reply,
                           size_t length, uint8_t link_before, uint8_t link)
 {
@@ -37,6 +37,7 @@ static void mark_exchange(const uint8_t *command, const uint8_t *reply,
 
     if (!telling())
         return;
+    fprintf(stderr, "mark identity_%u\n", reply[2] >> 6);
     if (link_before == 3 && link == 2 && reply[3] >> 4 == 12)
         fprintf(stderr, "mark lost_cycle\n");
     else if (memchr(known, command[0], sizeof known) == NULL)

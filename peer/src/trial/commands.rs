@@ -186,3 +186,22 @@ fn address(random: &mut Random, plan: &Plan, length: u64) -> u64 {
         _ => inside,
     }
 }
+
+#[cfg(test)]
+mod tests {
+    use super::*;
+    use crate::trial::samples::sheet_p;
+    use crate::trial::states::plain_state;
+
+    #[test]
+    fn both_control_octets_take_every_value() {
+        let (mut random, plan) = (Random::new(1), sheet_p());
+        let mut seen = [[false; 256]; 2];
+        for _ in 0..10_000 {
+            let command = random_command(&mut random, &plan, &plain_state(16, ASYNC));
+            seen[0][usize::from(command[2])] = true;
+            seen[1][usize::from(command[3])] = true;
+        }
+        assert_eq!(seen, [[true; 256]; 2]);
+    }
+}

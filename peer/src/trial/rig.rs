@@ -84,6 +84,11 @@ impl Rig {
         Err(self.difference("the answer expected"))
     }
 
+    /// The reply that both engines left in the call that was made last.
+    pub fn reply(&self) -> &[u8] {
+        self.ours.reply.lend()
+    }
+
     fn disagreement(&self) -> Option<&'static str> {
         let (ours, theirs) = (&self.ours, &self.theirs);
         if ours.answer != theirs.answer {

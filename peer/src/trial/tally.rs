@@ -25,18 +25,51 @@ const NAMES: [&str; 11] = [
 ];
 const ALARMS: [usize; 4] = [8, 9, 10, 12];
 
-/// Exchanges of one code that built a reply.
+/// Built replies of one code, or of one identity.
 #[derive(Clone, Copy, Default)]
-struct OfCode {
+struct Replies {
     /// Accepted, by the link before.
     accepted: [u64; 4],
     alarms: [u64; 16],
     lost_cycles: u64,
 }
 
+impl Replies {
+    fn add(&mut self, before: u8, alarm: usize, lost: bool) {
+        if lost {
+            self.lost_cycles += 1;
+        } else if alarm == 0 {
+            self.accepted[usize::from(before)] += 1;
+        } else {
+            self.alarms[alarm] += 1;
+        }
+    }
+
+    /// What of these links and alarms, and of a lost cycle, has not been given yet.
+    fn gaps(&self, name: &str, links: &[u8], alarms: &[usize]) -> Vec<String> {
+        let mut gaps = Vec::new();
+        for &link in links {
+            if self.accepted[usize::from(link)] == 0 {
+                gaps.push(format!("{name} accepted in link {link}"));
+            }
+        }
+        for &alarm in alarms {
+            if self.alarms[alarm] == 0 {
+                gaps.push(format!("{name} with alarm {alarm}"));
+            }
+        }
+        if self.lost_cycles == 0 {
+            gaps.push(format!("{name} in a lost cycle"));
+        }
+        gaps
+    }
+}
+
 /// All calls so far.
 pub struct Tally {
-    codes: Vec<OfCode>,
+    codes: Vec<Replies>,
+    /// By bits 6 and 7 of reply octet 2.
+    identities: [Replies; 4],
     calls: BTreeMap<Call, u64>,
     numbers: BTreeMap<(Call, u32), u64>,
     /// Accepted memory commands over more than one region.
@@ -46,7 +79,8 @@ pub struct Tally {
 impl Default for Tally {
     fn default() -> Tally {
         Tally {
-            codes: vec![OfCode::default(); 256],
+            codes: vec![Replies::default(); 256],
+            identities: [Replies::default(); 4],
             calls: BTreeMap::new(),
             numbers: BTreeMap::new(),
             crossings: 0,
@@ -67,15 +101,12 @@ impl Tally {
     }
 
     fn add_reply(&mut self, before: u8, after: &Inputs, reply: &[u8]) {
-        let of_code = &mut self.codes[usize::from(reply[0])];
         let alarm = usize::from(reply[3] & 15);
-        if before == SYNC && after.state[LINK_AT] == ASYNC {
-            of_code.lost_cycles += 1;
-        } else if alarm == 0 {
-            of_code.accepted[usize::from(before)] += 1;
+        let lost = before == SYNC && after.state[LINK_AT] == ASYNC;
+        self.codes[usize::from(reply[0])].add(before, alarm, lost);
+        self.identities[usize::from(reply[2] >> 6)].add(before, alarm, lost);
+        if !lost && alarm == 0 {
             self.crossings += u64::from(crosses_regions(after));
-        } else {
-            of_code.alarms[alarm] += 1;
         }
     }
 
@@ -98,20 +129,11 @@ impl Tally {
     pub fn gaps(&self) -> Vec<String> {
         let mut gaps = Vec::new();
         for (&code, name) in CODES.iter().zip(NAMES) {
-            let of_code = &self.codes[usize::from(code)];
-            for link in links_allowing(code) {
-                if of_code.accepted[usize::from(link)] == 0 {
-                    gaps.push(format!("{name} accepted in link {link}"));
-                }
-            }
-            for alarm in alarms_of(code) {
-                if of_code.alarms[alarm] == 0 {
-                    gaps.push(format!("{name} with alarm {alarm}"));
-                }
-            }
-            if of_code.lost_cycles == 0 {
-                gaps.push(format!("{name} in a lost cycle"));
-            }
+            let replies = &self.codes[usize::from(code)];
+            gaps.extend(replies.gaps(name, &links_allowing(code), &alarms_of(code)));
+        }
+        for (identity, replies) in self.identities.iter().enumerate() {
+            gaps.extend(replies.gaps(&identity_name(identity), &[1, 2, 3], &ALARMS));
         }
         if self.crossings == 0 {
             gaps.push("memory command over two regions".to_string());
@@ -142,7 +164,7 @@ impl Tally {
             .collect()
     }
 
-    fn write_code(&self, formatter: &mut fmt::Formatter, name: &str, sum: &OfCode) -> fmt::Result {
+    fn write_row(&self, formatter: &mut fmt::Formatter, name: &str, sum: &Replies) -> fmt::Result {
         write!(formatter, "{name:11}")?;
         for link in 1..4 {
             write!(formatter, " {:10}", sum.accepted[link])?;
@@ -153,8 +175,8 @@ impl Tally {
         writeln!(formatter, " {:9}", sum.lost_cycles)
     }
 
-    fn other_codes(&self) -> OfCode {
-        let mut sum = OfCode::default();
+    fn other_codes(&self) -> Replies {
+        let mut sum = Replies::default();
         for code in (0..=255u8).filter(|code| !CODES.contains(code)) {
             let of_code = &self.codes[usize::from(code)];
             for alarm in ALARMS {
@@ -182,6 +204,10 @@ fn crosses_regions(inputs: &Inputs) -> bool {
         }
         Err(_) => false,
     }
+}
+
+fn identity_name(identity: usize) -> String {
+    format!("identity {identity}")
 }
 
 /// The links in which a code can be accepted.
@@ -215,9 +241,12 @@ impl fmt::Display for Tally {
         }
         writeln!(formatter, "      lost")?;
         for (&code, name) in CODES.iter().zip(NAMES) {
-            self.write_code(formatter, name, &self.codes[usize::from(code)])?;
+            self.write_row(formatter, name, &self.codes[usize::from(code)])?;
         }
-        self.write_code(formatter, "other codes", &self.other_codes())?;
+        self.write_row(formatter, "other codes", &self.other_codes())?;
+        for (identity, replies) in self.identities.iter().enumerate() {
+            self.write_row(formatter, &identity_name(identity), replies)?;
+        }
         writeln!(
             formatter,
             "accepted over more than one region: {}",

@@ -2,6 +2,7 @@
 
 mod buffers;
 mod data;
+mod identities;
 mod limits;
 mod links;
 mod octets;
@@ -17,6 +18,7 @@ pub fn run(rig: &mut Rig) -> Outcome {
     buffers::run(rig)?;
     states::run(rig)?;
     links::run(rig)?;
+    identities::run(rig)?;
     data::run(rig)?;
     octets::run(rig)?;
     limits::run(rig)?;
