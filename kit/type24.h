@@ -129,7 +129,8 @@ uint64_t t24_enable(const uint8_t *sheet, size_t sheet_len,
  * T24_BAD_STATE (wrong length or not valid under this sheet); T24_BAD_MEMORY;
  * T24_BAD_COMMAND; T24_BAD_REPLY; T24_IS_DISABLED; else T24_DONE.
  * T24_DONE says that a reply was built.  The command may still be refused in
- * it: see t24_reply_alarm() and t24_reply_communication_alarm().
+ * it: see t24_reply_alarm() and t24_reply_communication_alarm().  Whose reply
+ * it is among repeated commands, t24_reply_identity() tells.
  * Afterwards: on T24_DONE all L octets of the reply are written, the state is
  * the valid record for the next exchange, and of the memory the octets that an
  * accepted PRM_WR or MEM_WR names are written; else state, memory and reply are
@@ -210,6 +211,15 @@ static inline size_t t24_memory(uint64_t lengths)
 static inline uint32_t t24_reply_alarm(const uint8_t *reply)
 {
     return reply[T24_REPLY_AT_STATUS + 1] & 0x0Fu;
+}
+
+/*
+ * The identity of the command that a built reply belongs to, 0 to 3: what its
+ * octet 2 has in T24_IDENTITY, if it was accepted, refused or not executed.
+ */
+static inline uint32_t t24_reply_identity(const uint8_t *reply)
+{
+    return (reply[T24_REPLY_AT_STATUS] >> 6) & 0x03u;
 }
 
 /* The latched communication alarm in a built reply. */

@@ -80,18 +80,24 @@
  *   1     WDT: low half MN, which in SyncConnected has to be one more, modulo
  *         16, than in the command before (RULES, the watchdog); high half SN,
  *         not looked at
- *   2-3   control, not looked at
+ *   2     control: T24_IDENTITY, which the reply has again, so that a master
+ *         that repeats a command can tell the replies apart; other bits are
+ *         not looked at
+ *   3     control, not looked at
  *   4..   the fields named with the command; others are not looked at
  */
 #define T24_COMMAND_AT_CODE 0
 #define T24_COMMAND_AT_WDT 1
+#define T24_COMMAND_AT_CONTROL 2
+#define T24_IDENTITY 0xC0 /* of octet 2 in command and reply: 0 to 3 */
 
 /*
  * Every reply has L octets (RULES, status and RWDT):
  *   0     the code again
  *   1     RWDT: low half the command's MN, high half RSN, 0 to 15; 0 where the
  *         link afterwards is not SyncConnected
- *   2     T24_STATUS_ALWAYS, and T24_STATUS_LATCHED while a latch is not 0
+ *   2     T24_STATUS_ALWAYS, T24_STATUS_LATCHED while a latch is not 0, and the
+ *         command's T24_IDENTITY, whether it was executed or not
  *   3     low half this command's alarm, high half the communication latch
  *   4..   the body named with the command; zeros if it was refused, and zero
  *         wherever nothing is named

@@ -107,7 +107,8 @@ static inline const char *t24_octet_words(uint32_t code, size_t octet)
     switch (octet) {
     case T24_REPLY_AT_CODE: return "the code";
     case T24_REPLY_AT_RWDT: return "RWDT";
-    case T24_REPLY_AT_STATUS: return "status, low octet";
+    case T24_REPLY_AT_STATUS:
+        return "status, low octet, with the command's identity";
     case T24_REPLY_AT_STATUS + 1: return "status, high octet";
     default: break;
     }
@@ -200,7 +201,20 @@ static inline void t24_put_fields(struct t24_text *text, uint64_t code,
     }
 }
 
-/* A command: "1D MEM_RD address 00001000, 4 octets; MN 4, SN 0". */
+/* Bits 6 and 7 of octet 2, in a command and in its reply; 0 is not told. */
+static inline void t24_put_identity(struct t24_text *text, const char *before,
+                                    uint32_t identity)
+{
+    if (identity == 0)
+        return;
+    t24_put(text, before);
+    t24_put_decimal(text, identity);
+}
+
+/*
+ * A command: "1D MEM_RD address 00001000, 4 octets; MN 4, SN 0", and its
+ * identity where that is not 0: "0F DISCONNECT; MN 5, SN 0, identity 2".
+ */
 static inline size_t t24_command_words(const uint8_t *command,
                                        size_t command_len, char *text,
                                        size_t text_len)
@@ -220,6 +234,8 @@ static inline size_t t24_command_words(const uint8_t *command,
     t24_put_decimal(&made, t24_field(&pdu, T24_COMMAND_AT_WDT, 1) & 0x0Fu);
     t24_put(&made, ", SN ");
     t24_put_decimal(&made, t24_field(&pdu, T24_COMMAND_AT_WDT, 1) >> 4);
+    t24_put_identity(&made, ", identity ",
+                     t24_field(&pdu, T24_COMMAND_AT_CONTROL, 1) >> 6 & 3u);
     return t24_text_end(&made);
 }
 

@@ -27,7 +27,8 @@
 /*
  * The status of a reply (RULES, status and RWDT), of which octets 2 and 3 are
  * read.  Without an alarm it is "accepted", but not while the communication
- * latch is set: the command may be the one that was not executed.
+ * latch is set: the command may be the one that was not executed.  The
+ * identity is told where it is not 0.
  */
 static inline size_t t24_status_words(const uint8_t *reply, char *text,
                                       size_t text_len)
@@ -53,10 +54,11 @@ static inline size_t t24_status_words(const uint8_t *reply, char *text,
     }
     if ((low & T24_STATUS_LATCHED) != 0)
         t24_put(&made, "; a latch is set");
+    t24_put_identity(&made, "; identity ", t24_reply_identity(reply));
     if ((low & T24_STATUS_ALWAYS) == 0)
         t24_put(&made, "; bit 2 is 0, must be 1");
-    if ((low & ~(T24_STATUS_LATCHED | T24_STATUS_ALWAYS)) != 0)
-        t24_put(&made, "; bits 1 and 3 to 7 are not 0");
+    if ((low & ~(T24_STATUS_LATCHED | T24_STATUS_ALWAYS | T24_IDENTITY)) != 0)
+        t24_put(&made, "; bits 1 and 3 to 5 are not 0");
     return t24_text_end(&made);
 }
 
