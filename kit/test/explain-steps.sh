@@ -107,7 +107,7 @@ before:  link 2 AsyncConnected, command latch 0, communication latch 0
 ours:  1E0004000021010000100000B4000000
 trace: 1E0005190021010000100000B5000000
            ^^^^                ^^
-octet 2: status, low octet
+octet 2: status, low octet, with the command's identity
 ours:  accepted
 trace: alarm 9, a field of the command is wrong; communication latch 1, not an alarm of this library; a latch is set
 END
@@ -124,7 +124,7 @@ before:  link 2 AsyncConnected, command latch 9, communication latch 0
 ours:  1D0005000021010002100000AABB0000
 trace: 1D0004000021010002100000AABB0000
            ^^
-octet 2: status, low octet
+octet 2: status, low octet, with the command's identity
 ours:  accepted; a latch is set
 trace: accepted
 END

@@ -52,7 +52,8 @@ static const unsigned pair[][2] = {
     { T24_REGIONS_MAX, 32 }, { T24_PARAMETERS_MAX, 64 },
     { T24_ITEMS_MAX, 32 }, { T24_PARAMETER_SIZE_MAX, 56 },
     { T24_ITEM_OCTETS, 32 }, { T24_COMMAND_AT_CODE, 0 },
-    { T24_COMMAND_AT_WDT, 1 }, { T24_REPLY_AT_CODE, 0 },
+    { T24_COMMAND_AT_WDT, 1 }, { T24_COMMAND_AT_CONTROL, 2 },
+    { T24_IDENTITY, 0xC0 }, { T24_REPLY_AT_CODE, 0 },
     { T24_REPLY_AT_RWDT, 1 }, { T24_REPLY_AT_STATUS, 2 },
     { T24_STATUS_LATCHED, 1 }, { T24_STATUS_ALWAYS, 4 },
     { T24_PRM_AT_NUMBER, 4 }, { T24_PRM_AT_SIZE, 6 },
@@ -78,7 +79,9 @@ void header_constants(void)
 static void answers_taken_apart(void)
 {
     const uint64_t answer = ((uint64_t)0xFEDCBA98u << 32) + 0x76543210u;
-    const uint8_t reply[4] = { 0, 0, 5, 0xC9 };
+    static const uint8_t low[4] = { 0x3F, 0x44, 0x80, 0xC5 };
+    uint8_t reply[4] = { 0xFF, 0xFF, 5, 0xC9 };
+    unsigned identity;
 
     check(t24_number(answer) == 0x76543210u, "number of an answer");
     check(t24_place(answer) == 0xFEDCBA98u, "place of an answer");
@@ -88,6 +91,10 @@ static void answers_taken_apart(void)
     check(t24_trace_octet(answer) == 0x18, "octet of an answer");
     check(t24_reply_alarm(reply) == 9, "alarm of a reply");
     check(t24_reply_communication_alarm(reply) == 12, "latch of a reply");
+    for (identity = 0; identity < 4; identity++) {
+        reply[2] = low[identity];
+        check(t24_reply_identity(reply) == identity, "identity of a reply");
+    }
 }
 
 void header_words(void)

@@ -5,12 +5,13 @@
 
 #include <string.h>
 
-/* The noise of a command begins with C3 hex, which is no code. */
+/* The noise of a command begins with C3 hex, which is no code; its octet 2 is
+ * CD hex, so its identity is 3. */
 static void want_unknown_code(unsigned l)
 {
     memset(wanted(REPLY), 0, l);
     wanted(REPLY)[0] = 0xC3;
-    wanted(REPLY)[2] = 0x05;
+    wanted(REPLY)[2] = 0xC5;
     wanted(REPLY)[3] = T24_ALARM_CODE;
     wanted(STATE)[T24_AT_COMMAND_ALARM] = T24_ALARM_CODE;
 }

@@ -111,6 +111,18 @@ static void spoil_buffers(uint64_t answer, const uint8_t *sheet,
         reply[1] ^= 0x10; /* something kept from call to call */
 }
 
+/* The identity lost in one kind of reply, or a bit too many come back. */
+static void spoil_identity(uint8_t *reply, const uint8_t *command)
+{
+    const unsigned alarm = t24_reply_alarm(reply);
+
+    if ((spoil(20) && alarm != T24_ALARM_NONE)
+        || (spoil(21) && reply[T24_REPLY_AT_STATUS + 1] == 0xC0))
+        reply[T24_REPLY_AT_STATUS] &= 0x3F;
+    if (spoil(22))
+        reply[T24_REPLY_AT_STATUS] |= command[T24_COMMAND_AT_CONTROL] & 0x20;
+}
+
 uint64_t __wrap_t24_exchange(const uint8_t *sheet, size_t sheet_len,
                              uint8_t *state, size_t state_len,
                              uint8_t *memory, size_t memory_len,
@@ -125,6 +137,8 @@ uint64_t __wrap_t24_exchange(const uint8_t *sheet, size_t sheet_len,
         answer = T24_BAD_REPLY;
     if (spoil(16) && answer == T24_DONE && state[T24_AT_LAST_MN] == 15)
         state[T24_AT_LAST_MN] = 14; /* 15 to 0 then looks like a lost cycle */
+    if (answer == T24_DONE)
+        spoil_identity(reply, command);
     spoil_buffers(answer, sheet, memory, memory_len, command, command_len,
                   reply, reply_len);
     return answer;
@@ -144,6 +158,8 @@ uint64_t __wrap_t24_replay(const uint8_t *sheet, size_t sheet_len,
         memory[memory_len - 1] ^= 1; /* the differing record has written */
     if (spoil(18) && number == T24_TRACE_CUT && t24_place(answer) > 0)
         return answer + 1; /* a difference told before the form */
+    if (spoil(23) && number == T24_TRACE_DIFFERS && t24_trace_octet(answer) == 2)
+        return answer + ((uint64_t)1 << 32); /* status not compared in octet 2 */
     if (spoil(19) && number == T24_DONE && trace_len > 0)
         state[T24_AT_LAST_MN] ^= *(const volatile uint8_t *)(trace + trace_len);
     return answer;

@@ -100,7 +100,7 @@ test_that_tests_fail() {
     $C -static $SOURCES spoil.c $LIB $(wraps) -o "$work/spoiled"
     export SPOIL=0
     run "$work/spoiled" stop >"$work/out" || fail "unspoiled, yet fails"
-    for number in 1 2 3 4 5 6 7 8 9 10 11 12 13 14 15 16 17 18 19; do
+    for number in 1 2 3 4 5 6 7 8 9 10 11 12 13 14 15 16 17 18 19 20 21 22 23; do
         SPOIL=$number
         must_fail "spoil $number" FAILED run "$work/spoiled" stop
     done
@@ -127,6 +127,10 @@ test_that_words_fail() {
         's/text->len < text->room ? text->len : text->room - 1/text->len/'
     wrong_words "a limit off by one" type24_sheet_words.h \
         's/memory <= T24_MEMORY_MAX/memory <= T24_MEMORY_MAX + 1/'
+    wrong_words "an identity of one bit" type24.h \
+        's/(reply\[T24_REPLY_AT_STATUS\] >> 6) & 0x03u/(reply[T24_REPLY_AT_STATUS] >> 6) \& 0x01u/'
+    wrong_words "an identity told in a command cut before it" type24_pdu_words.h \
+        's/t24_field(&pdu, T24_COMMAND_AT_CONTROL, 1)/pdu.at[T24_COMMAND_AT_CONTROL]/'
 }
 
 test_stack() {

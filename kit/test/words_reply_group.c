@@ -39,7 +39,15 @@ void words_status(void)
     status(5, 0x0C, "alarm 12, command not allowed in this link; a latch is set");
     status(0, 0x00, "accepted; bit 2 is 0, must be 1");
     status(6, 0x30, "alarm 0, none; communication latch 3, not an alarm of this "
-           "library; bits 1 and 3 to 7 are not 0");
+           "library; bits 1 and 3 to 5 are not 0");
+    status(0x44, 0x00, "accepted; identity 1");
+    status(0x85, 0x00, "accepted; a latch is set; identity 2");
+    status(0xC5, 0x0A, "alarm 10, no right to part of the span; a latch is set; "
+           "identity 3");
+    status(0xC5, 0xC0, "alarm 0, none; communication latch 12, a cycle was lost: "
+           "MN did not follow; a latch is set; identity 3");
+    status(0xE0, 0x00, "accepted; identity 3; bit 2 is 0, must be 1; "
+           "bits 1 and 3 to 5 are not 0");
     check(strcmp(t24_communication_words(0), "none") == 0, "no latch");
     check(strcmp(t24_communication_words(12), t24_alarm_words(12)) != 0,
           "one 12 is not the other");
@@ -125,7 +133,8 @@ static const struct {
     const char *words;
 } fields[] = {
     { T24_NOP, 0, "the code" }, { T24_NOP, 1, "RWDT" },
-    { T24_NOP, 2, "status, low octet" }, { T24_NOP, 3, "status, high octet" },
+    { T24_NOP, 2, "status, low octet, with the command's identity" },
+    { T24_NOP, 3, "status, high octet" },
     { T24_NOP, 4, "unnamed, must be 0" }, { T24_PRM_RD, 4, "PRM_RD: number" },
     { T24_PRM_RD, 6, "PRM_RD: size" }, { T24_PRM_RD, 7, "unnamed, must be 0" },
     { T24_PRM_RD, 8, "PRM_RD: data, and zeros behind it" },
@@ -190,6 +199,10 @@ void words_commands(void)
     static const uint8_t alm[] = { 0x05, 0, 0, 0, 1, 0, 0, 0 };
     static const uint8_t connect[] = { 0x0E, 0, 0, 0, 0x30, 6, 2, 1 };
     static const uint8_t unknown[] = { 0x77, 3, 0, 0, 0, 0, 0, 0 };
+    static const uint8_t again[] = { 0x1D, 0x14, 0xBF, 0xFF, 0, 0x21, 2, 0, 0,
+                                     0x10, 0, 0, 0, 0, 0, 0 };
+    static const uint8_t other[] = { 0x0F, 5, 0x40, 0, 0, 0, 0, 0 };
+    static const uint8_t ignored[] = { 0x0F, 5, 0x3F, 0xFF, 0, 0, 0, 0 };
 
     command("1D MEM_RD address 00001000, 4 octets; MN 4, SN 1", 16, mem);
     command("1D MEM_RD without an address, 4 octets; MN 4, SN 1", 8, mem);
@@ -202,6 +215,11 @@ void words_commands(void)
             "MN 0, SN 0", 8, connect);
     command("77 unknown code; MN 3, SN 0", 8, unknown);
     command("00 NOP; MN 0, SN 0", 0, unknown);
+    command("1D MEM_RD address 00001000, 4 octets; MN 4, SN 1, identity 2", 16,
+            again);
+    command("0F DISCONNECT; MN 5, SN 0, identity 1", 8, other);
+    command("0F DISCONNECT; MN 5, SN 0", 2, other);
+    command("0F DISCONNECT; MN 5, SN 0", 8, ignored);
 }
 
 static void trace(const char *words, size_t len, unsigned kind, uint64_t answer)
