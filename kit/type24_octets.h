@@ -89,7 +89,7 @@
 #define T24_COMMAND_AT_CODE 0
 #define T24_COMMAND_AT_WDT 1
 #define T24_COMMAND_AT_CONTROL 2
-#define T24_IDENTITY 0xC0 /* of octet 2 in command and reply: 0 to 3 */
+#define T24_IDENTITY 0xC0 /* bits 6 and 7 of octet 2, in command and reply */
 
 /*
  * Every reply has L octets (RULES, status and RWDT):
