@@ -24,10 +24,13 @@ make_traces() {
     hex write.bin "22 1E040000002101000010000000B40000 1E000400002101000010000000B40000"
     hex odd.bin "22 1E0400000021010000100000B4000000 1E0005190021010000100000B5000000"
     hex nop.bin "22 00000000000000000000000000000000 00000400000000000000000000000000"
+    hex first.bin "22 1D004000002101000210000000000000 1D0044000021010002100000AABB0000"
+    hex again.bin "22 1D008000002101000210000000000000 1D0044000021010002100000AABB0000" # the first reply once more
     hex kind.bin 77
     hex other-l.bin 21
     cat read.bin write.bin >agree.bin
     cat read.bin write.bin odd.bin nop.bin >differ.bin
+    cat first.bin again.bin >repeated.bin
     cat nop.bin kind.bin >bad-kind.bin
     cat odd.bin other-l.bin >bad-l.bin
     head -c 63 agree.bin >cut.bin
@@ -127,6 +130,17 @@ trace: 1D0004000021010002100000AABB0000
 octet 2: status, low octet, with the command's identity
 ours:  accepted; a latch is set
 trace: accepted
+END
+    explained 1 stdout trace sheet.bin state.bin memory.bin repeated.bin <<'END'
+record 1, at octet 33 of the trace, differs at octet 2 of its reply
+command: 1D MEM_RD address 00001002, 2 octets; MN 0, SN 0, identity 2
+before:  link 2 AsyncConnected, command latch 0, communication latch 0
+ours:  1D0084000021010002100000AABB0000
+trace: 1D0044000021010002100000AABB0000
+           ^^
+octet 2: status, low octet, with the command's identity
+ours:  accepted; identity 2
+trace: accepted; identity 1
 END
 }
 
