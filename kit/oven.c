@@ -81,9 +81,10 @@ static int bring_up(struct host *host)
                                            host->state, sizeof host->state));
 }
 
-/* One exchange; tells 1 if the command was accepted. */
+/* One exchange; tells 1 if the command was accepted and executed. */
 static int exchange(struct host *host, const char *name)
 {
+    const uint8_t before = host->state[T24_AT_LINK];
     const uint64_t answer =
         t24_exchange(host->sheet, host->sheet_len, host->state, sizeof host->state,
                      host->memory, host->memory_len, host->command, host->l,
@@ -102,8 +103,10 @@ static int exchange(struct host *host, const char *name)
         fprintf(stderr, "%s: %s\n", name,
                 t24_communication_words(T24_ALARM_COMMUNICATION));
     alarm = t24_reply_alarm(host->reply);
+    /* From Sync to Async by anything but an alarm: this cycle was lost. */
     if (alarm == T24_ALARM_NONE)
-        return 1;
+        return before != T24_LINK_SYNC
+            || host->state[T24_AT_LINK] != T24_LINK_ASYNC;
     fprintf(stderr, "%s refused: alarm %u, %s\n", name, (unsigned)alarm,
             t24_alarm_words(alarm));
     return 0;

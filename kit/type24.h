@@ -20,7 +20,8 @@
  *
  * type24_octets.h has the octets of sheet, state record, commands and replies
  * and comes with this header; type24_words.h makes detailed words and comes
- * where a host includes it.  RULES is the page RULES.md, named with a section.
+ * where a host includes it.  RULES is the page RULES.md, with its section; those
+ * from 3 to 9 are pages of their own beside it, in rules.
  */
 #ifndef TYPE24_H
 #define TYPE24_H
@@ -44,13 +45,13 @@
 #define T24_MEMORY_MAX 65536 /* no accepted sheet describes more memory */
 #define T24_TRACE_MAX 1073741823 /* no replayed trace is longer */
 
-/* Numbers a call can answer, see t24_number() (RULES, numbers of the calls). */
+/* Numbers a call can answer, see t24_number() (RULES 8.3). */
 #define T24_DONE 0          /* done, or reply built, or sheet valid */
 #define T24_BAD_STATE 1     /* state record of wrong length or not valid */
 #define T24_BAD_MEMORY 2    /* memory length not the sum of the regions */
 #define T24_BAD_COMMAND 3   /* command length not L */
 #define T24_BAD_REPLY 4     /* reply length not L */
-#define T24_IS_DISABLED 5   /* exchange while Disabled */
+#define T24_IS_DISABLED 5   /* exchange or replay while Disabled */
 #define T24_NOT_DISABLED 6  /* enable when not Disabled */
 #define T24_SHEET_CUT 11    /* sheet ends too early, or exceeds T24_SHEET_MAX */
 #define T24_SHEET_KIND 12   /* unknown record kind */
@@ -65,7 +66,7 @@
 #define T24_TRACE_DIFFERS 34 /* trace: a reply is not this slave's */
 #define T24_TRACE_LONG 35   /* trace exceeds T24_TRACE_MAX */
 
-/* Alarms in a reply and in the latches (RULES, latches and alarms). */
+/* Alarms in a reply and in the latches (RULES 6.6). */
 #define T24_ALARM_NONE 0
 #define T24_ALARM_CODE 8           /* unknown command code */
 #define T24_ALARM_DATA 9           /* a field of the command is wrong */
@@ -78,7 +79,7 @@ extern "C" {
 #endif
 
 /*
- * Verdict on a sheet (RULES, faults of a sheet).  Needs nothing but the sheet,
+ * Verdict on a sheet (RULES 3.4).  Needs nothing but the sheet,
  * of any length; t24_sheet_words() in type24_words.h says the fault in words.
  * Answers T24_DONE for a valid sheet, else 11 to 17 for its first fault, with
  * the octet of the sheet where the faulty record starts as place.  A sheet
@@ -112,7 +113,7 @@ uint64_t t24_reset(const uint8_t *sheet, size_t sheet_len,
  * Needs a valid sheet and a valid state record of that sheet's L.
  * Answers, the first that applies: 11 to 17 with place as t24_sheet does;
  * T24_BAD_STATE if the state has the wrong length or is not valid under this
- * sheet (RULES, the state record); T24_NOT_DISABLED if its link is not 0; else
+ * sheet (RULES 5.3); T24_NOT_DISABLED if its link is not 0; else
  * T24_DONE.
  * Afterwards: on T24_DONE the state's link is T24_LINK_DISCONNECTED, its other
  * octets as before; else it is unchanged.  The sheet is unchanged.
@@ -123,8 +124,8 @@ uint64_t t24_enable(const uint8_t *sheet, size_t sheet_len,
 /*
  * One exchange: takes the master's command, builds the reply.
  * Needs a valid sheet, a valid state record of that sheet's L that is not
- * Disabled, the memory (the regions one after another in sheet order: RULES,
- * the memory), and command and reply of exactly L octets.
+ * Disabled, the memory (the regions one after another in sheet order: RULES
+ * 4.1), and command and reply of exactly L octets.
  * Answers, the first that applies: 11 to 17 with place as t24_sheet does;
  * T24_BAD_STATE (wrong length or not valid under this sheet); T24_BAD_MEMORY;
  * T24_BAD_COMMAND; T24_BAD_REPLY; T24_IS_DISABLED; else T24_DONE.
@@ -144,7 +145,7 @@ uint64_t t24_exchange(const uint8_t *sheet, size_t sheet_len,
 
 /*
  * Replays a trace: exchanges each record's command and compares the replies
- * (RULES, the trace).
+ * (RULES 9).
  * Needs what t24_exchange needs but for command and reply, and a trace: none or
  * more records of 1 + 2 L octets.
  * Answers, the first that applies: 11 to 17, T24_BAD_STATE, T24_BAD_MEMORY and
@@ -206,7 +207,7 @@ static inline size_t t24_memory(uint64_t lengths)
 /*
  * The alarm of this command in a built reply: T24_ALARM_NONE if accepted, and
  * where the watchdog failed, so that nothing was executed: then the state's
- * link went from T24_LINK_SYNC to T24_LINK_ASYNC (RULES, the watchdog).
+ * link went from T24_LINK_SYNC to T24_LINK_ASYNC (RULES 6.4).
  */
 static inline uint32_t t24_reply_alarm(const uint8_t *reply)
 {
@@ -237,7 +238,7 @@ static inline const char *t24_words(uint32_t number)
     case T24_BAD_MEMORY: return "memory length is not the sum of the regions";
     case T24_BAD_COMMAND: return "command length is not L";
     case T24_BAD_REPLY: return "reply length is not L";
-    case T24_IS_DISABLED: return "exchange while Disabled";
+    case T24_IS_DISABLED: return "exchange or replay while Disabled";
     case T24_NOT_DISABLED: return "enable when not Disabled";
     case T24_SHEET_CUT: return "sheet: ends too early or is too long";
     case T24_SHEET_KIND: return "sheet: unknown record kind";

@@ -9,7 +9,7 @@
 #define TYPE24_OCTETS_H
 
 /*
- * Sheet (RULES, the device sheet): an octet of kind and a body.  First one link
+ * Sheet (RULES 3): an octet of kind and a body.  First one link
  * record, then regions, parameters and ID items, at last the end record.
  */
 #define T24_RECORD_END 0x00
@@ -36,7 +36,7 @@
 #define T24_ITEM_AT_LENGTH 2 /* 1 to T24_ITEM_OCTETS */
 #define T24_ITEM_AT_OCTETS 3 /* those past the length are zero */
 
-#define T24_RIGHT_READ 0x01 /* rights of a region (RULES, rights) */
+#define T24_RIGHT_READ 0x01 /* rights of a region (RULES 4.3) */
 #define T24_RIGHT_WRITE_ASYNC 0x02
 #define T24_RIGHT_WRITE_SYNC 0x04
 
@@ -46,7 +46,7 @@
 #define T24_PARAMETER_SIZE_MAX 56
 #define T24_ITEM_OCTETS 32
 
-/* State record (RULES, the state record; RULES, links): ten octets. */
+/* State record (RULES 5.3; RULES 5.1): ten octets. */
 #define T24_AT_KIND 0 /* always T24_STATE_KIND */
 #define T24_AT_LINK 1
 #define T24_AT_L 2
@@ -64,7 +64,7 @@
 #define T24_LINK_SYNC 3
 
 /*
- * Trace (RULES, the trace): records of a kind, a command and its reply, so of
+ * Trace (RULES 9): records of a kind, a command and its reply, so of
  * 1 + 2 L octets.
  */
 #define T24_TRACE_8 0x21
@@ -75,11 +75,12 @@
 #define T24_TRACE_AT_COMMAND 1 /* the reply stands L octets behind it */
 
 /*
- * Every command has L octets (RULES, the PDU):
+ * Every command has L octets (RULES 2.3):
  *   0     the code
  *   1     WDT: low half MN, which in SyncConnected has to be one more, modulo
- *         16, than in the command before (RULES, the watchdog); high half SN,
- *         not looked at
+ *         16, than in the command before (RULES 6.4), but for the first
+ *         behind the one that entered SyncConnected, which may have any; high
+ *         half SN, not looked at
  *   2     control: T24_IDENTITY, which the reply has again, so that a master
  *         that repeats a command can tell the replies apart; other bits are
  *         not looked at
@@ -92,7 +93,7 @@
 #define T24_IDENTITY 0xC0 /* bits 6 and 7 of octet 2, in command and reply */
 
 /*
- * Every reply has L octets (RULES, status and RWDT):
+ * Every reply has L octets (RULES 6.2 and 6.3):
  *   0     the code again
  *   1     RWDT: low half the command's MN, high half RSN, 0 to 15; 0 where the
  *         link afterwards is not SyncConnected
@@ -109,7 +110,7 @@
 #define T24_STATUS_ALWAYS 0x04
 
 /*
- * Commands (RULES, commands).  Checked in this order: a code that is not here
+ * Commands (RULES 7).  Checked in this order: a code that is not here
  * gives alarm 8, a link that is not named with it alarm 12, the first wrong
  * field, by the order of octets, alarm 9, a span without the right alarm 10.
  *
@@ -147,7 +148,7 @@
 /*
  * ALM_RD: links 2 and 3; L at least 16.  ALM_CLR: links 2 and 3; any L.
  *   4-5   mode, 0
- * ALM_CLR makes both latches 0 (RULES, latches and alarms); body zeros.
+ * ALM_CLR makes both latches 0 (RULES 6.6); body zeros.
  * Body of ALM_RD: at 8 the command latch, at 9 the communication latch, both
  * as they were before this command.
  */

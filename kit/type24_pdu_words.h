@@ -1,6 +1,6 @@
 /*
- * type24_pdu_words.h - commands, and the octets of replies, in words (RULES,
- * commands).  Comes with type24_words.h.
+ * type24_pdu_words.h - commands, and the octets of replies, in words (RULES 7).
+ * Comes with type24_words.h.
  */
 #ifndef TYPE24_PDU_WORDS_H
 #define TYPE24_PDU_WORDS_H

@@ -1,6 +1,6 @@
 /*
  * type24_range_words.h - fault 14 of a sheet in words: which field of a record
- * is out of range (RULES, faults of a sheet).  Comes with type24_words.h.
+ * is out of range (RULES 3.4).  Comes with type24_words.h.
  *
  * The walk stands at the record, which is whole.  Each t24_say_, here and in
  * type24_sheet_words.h, says what is wrong and tells 1, or finds nothing and

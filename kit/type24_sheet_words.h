@@ -1,6 +1,6 @@
 /*
  * type24_sheet_words.h - the fault of a sheet in words: which record, which
- * field, and what is allowed (RULES, faults of a sheet).  Comes with
+ * field, and what is allowed (RULES 3.4).  Comes with
  * type24_words.h.
  *
  * The verdict is the library's; the sheet is read again only to say where it

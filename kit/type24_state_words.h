@@ -1,5 +1,5 @@
 /*
- * type24_state_words.h - state records in words (RULES, the state record).
+ * type24_state_words.h - state records in words (RULES 5.3).
  * Comes with type24_words.h.
  */
 #ifndef TYPE24_STATE_WORDS_H
@@ -8,7 +8,7 @@
 #include "type24.h"
 #include "type24_text.h"
 
-/* A link's name (RULES, links). */
+/* A link's name (RULES 5.1). */
 static inline const char *t24_link_words(uint32_t link)
 {
     switch (link) {

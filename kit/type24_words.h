@@ -25,7 +25,7 @@
 #include "type24_text.h"
 
 /*
- * The status of a reply (RULES, status and RWDT), of which octets 2 and 3 are
+ * The status of a reply (RULES 6.2 and 6.3), of which octets 2 and 3 are
  * read.  Without an alarm it is "accepted", but not while the communication
  * latch is set: the command may be the one that was not executed.  The
  * identity is told where it is not 0.

@@ -46,7 +46,7 @@ refused_lines() {
 }
 
 test_hex_to() {
-    refused_lines "an odd digit" '00 01\n\n02 0 # no\n' "line 3: an odd digit, 3 in all"
+    refused_lines "an odd digit" '00 01\n\n02 0 # no\n' "line 3: an odd digit in 0"
     refused_lines "a letter that is no hex" '# first\n00 0g\n' "line 2: g is no hex digit"
     refused_lines "0x before digits" '0x00\n' "line 1: x is no hex digit"
     expect "t24-hex to a directory" 2 "" "t24-hex: folder: is a directory" "$hex" to folder

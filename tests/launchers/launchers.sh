@@ -68,7 +68,7 @@ test_bench_hex() {
     printf '# NOP\n00 00 00 00 0000000000000000 00000000\n\n0e000000 30000100 00000000 00000000 # CONNECT' >"$input"
     expect "bench --hex" 0 "$REPLIES" "" "$bench" --hex sheet.bin
     printf '00\n0\n' >"$input"
-    expect "bench --hex with an odd digit" 2 "" "t24-hex: line 2: an odd digit, 1 in all" "$bench" --hex sheet.bin
+    expect "bench --hex with an odd digit" 2 "" "t24-hex: line 2: an odd digit in 0" "$bench" --hex sheet.bin
     input=/dev/null
 }
 
