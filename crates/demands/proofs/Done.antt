@@ -2,7 +2,7 @@
 --     answered-done                               what is left, by the law
 --     seen-whole, seen-code, seen-alarm           the reply's length, code and alarm
 --     seen-identity                               the command's identity in the reply
---     seen-zero                                   without a body all octets from 4 on are 0
+--     seen-zero                                   without a body all octets behind the head are 0
 --     seen-link                                   the link afterwards is what the command made of it
 use mathlib.Core.Bool.{Bool, true, false, _&&_}
 use mathlib.Core.Logic.{⊎-elim}
@@ -17,10 +17,10 @@ use Rattle.link.specs.Stored.{fieldsOf}
 use Rattle.slave.specs.Answers.{told}
 use Rattle.slave.specs.Exchange.{left, exchanged, exchangeOf}
 use Rattle.replay.proofs.Steps.{is-exchanged}
-use Rattle.law.specs.Words.{Every, when, octet, Piece, piece, laid, over}
+use Rattle.law.specs.Words.{Every, when, Piece, piece, laid, over}
 use Rattle.law.specs.Sheet.{Sheet, FiveLengths, sheetOctets}
 use Rattle.law.specs.State.{link, rsn, commandLatch, communicationLatch}
-use Rattle.law.specs.Exchange.{Fate, mn, fateOf, watched, stateAfter, headFor, replyFor}
+use Rattle.law.specs.Exchange.{Fate, code, mn, identity, fateOf, watched, stateAfter, headFor, replyFor}
 use Rattle.law.specs.Calls.{Result, done}
 use Rattle.law.proofs.Calls.{leaves, done-same}
 use Rattle.law.proofs.Clauses.{state-yes}
@@ -29,7 +29,7 @@ use Rattle.law.proofs.Laid.{over-length, over-at, laid-before, lies-past}
 use Rattle.law.proofs.Layouts.{layoutFor}
 use Rattle.demands.specs.Answered.{Answered, alarmIn}
 use Rattle.demands.specs.Identity.{identityIn}
-use Rattle.demands.proofs.Fates.{fate-body, fate-small}
+use Rattle.demands.proofs.Fates.{headSize, fate-body, fate-small}
 
 pub least-length : (l : ℕ) → FiveLengths l → 8 ≤ l
 least-length l five =
@@ -69,12 +69,12 @@ module _ (h : Sheet) (s m c : List ℕ) (long : 8 ≤ h .l) where
   unfolding replyFor
   seen-whole = over-length 0 (piece 0 head ∷ f .body) (replicate (h .l) 0) ∙ zeros
 
-  all-further : (k : ℕ) → k < 4 → (ps : List Piece) → Every (λ (p : Piece). 4 ≤ p .first) ps → Every (λ (p : Piece). k < p .first) ps
+  all-further : (k : ℕ) → k < headSize → (ps : List Piece) → Every (λ (p : Piece). headSize ≤ p .first) ps → Every (λ (p : Piece). k < p .first) ps
   all-further k l [] all = tt
   all-further k l (p ∷ ps) all = (let z : k < p .first = omega (arith, all .0) in z, all-further k l ps (all .1))
 
   -- octet k of the reply, before the body
-  seen-head : (k : ℕ) → k < 4 → getD (lawful h s m c .reply) k 0 ≡ laid (piece 0 head ∷ []) k 0
+  seen-head : (k : ℕ) → k < headSize → getD (lawful h s m c .reply) k 0 ≡ laid (piece 0 head ∷ []) k 0
   unfolding replyFor laid
   seen-head k l =
       let z = zeros in
@@ -83,9 +83,9 @@ module _ (h : Sheet) (s m c : List ℕ) (long : 8 ≤ h .l) where
       ∙ ap (laid (piece 0 head ∷ f .body) k) (getD-replicate (h .l) k 0 0 (omega arith))
       ∙ laid-before (f .body) k _ (all-further k l (f .body) (fate-body h s m c))
 
-  pub seen-code : getD (lawful h s m c .reply) 0 0 ≡ octet c 0
+  pub seen-code : code (lawful h s m c .reply) ≡ code c
   unfolding laid when
-  seen-code = seen-head 0 (omega arith)
+  seen-code = seen-head _ (omega arith)
 
   bit-small : (b : Bool) → when b 0 1 ≤ 1
   unfolding when
@@ -97,16 +97,16 @@ module _ (h : Sheet) (s m c : List ℕ) (long : 8 ≤ h .l) where
   seen-identity =
       let b = eqb (commandLatch t) 0 && eqb (communicationLatch t) 0 in
       let u = bit-small b in
-      ap (λ (x : ℕ). x / 64 % 4) (seen-head 2 (omega arith))
-      ∙ (let e : (4 + when b 0 1 + 64 * (octet c 2 / 64 % 4)) / 64 % 4 ≡ octet c 2 / 64 % 4 = omega arith in e)
+      ap (λ (x : ℕ). x / 64 % 4) (seen-head _ (omega arith))
+      ∙ (let e : (4 + when b 0 1 + 64 * identity c) / 64 % 4 ≡ identity c = omega arith in e)
 
   pub seen-alarm : alarmIn (lawful h s m c .reply) ≡ f .alarm
   unfolding laid when
   seen-alarm =
       let u = fate-small h s m c in
-      ap (λ (x : ℕ). x % 16) (seen-head 3 (omega arith)) ∙ (let e : (f .alarm + 16 * communicationLatch t) % 16 ≡ f .alarm = omega arith in e)
+      ap (λ (x : ℕ). x % 16) (seen-head _ (omega arith)) ∙ (let e : (f .alarm + 16 * communicationLatch t) % 16 ≡ f .alarm = omega arith in e)
 
-  pub seen-zero : f .body ≡ [] → (k : ℕ) → 4 ≤ k → getD (lawful h s m c .reply) k 0 ≡ 0
+  pub seen-zero : f .body ≡ [] → (k : ℕ) → headSize ≤ k → getD (lawful h s m c .reply) k 0 ≡ 0
   unfolding replyFor laid
   seen-zero none k l =
       let z = zeros in

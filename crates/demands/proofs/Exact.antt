@@ -9,12 +9,12 @@ use borrow.Author.Tests.{eqb-true, eq-eqb, not-true}
 use lib.Dec.{eqb}
 use lib.ListN.{length}
 use Rattle.octets.proofs.Cases.{decided, lt-or-le}
-use Rattle.law.specs.Words.{octet, when, laid}
+use Rattle.law.specs.Words.{when, laid}
 use Rattle.law.specs.Sheet.{Sheet}
 use Rattle.law.specs.State.{link}
 use Rattle.law.specs.Memory.{Cell, has, hasAll}
 use Rattle.law.specs.Table.{table}
-use Rattle.law.specs.Exchange.{Fate, missed, judged, lost, fateOf}
+use Rattle.law.specs.Exchange.{Fate, code, missed, judged, lost, fateOf}
 use Rattle.law.proofs.Clauses.{valid-true}
 use Rattle.slave.specs.Exchange.{Left, exchangeOf}
 use Rattle.demands.specs.Accepted.{accepted, Executed, AcceptanceIsExact, RightsOverWholeSpan}
@@ -27,7 +27,7 @@ module _ (h : Sheet) (sheet s m c r : List ℕ) (a : Answered h sheet s m c r) w
   x = exchangeOf sheet s m c r
 
   abbrev row : Fate
-  row = judged s (octet c 0) (table h s m c)
+  row = judged s (code c) (table h s m c)
 
   long : 8 ≤ h .l
   long = least-length (h .l) (a .good .l)

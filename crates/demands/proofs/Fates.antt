@@ -12,13 +12,13 @@ use Prim.Native.Nat.{ℕ, _+_, _-_, _≤_, _<_}
 use native.Mathlib.Omega.{arith}
 use borrow.Author.Tests.{ltb-true, leb-true, eqb-true}
 use lib.Dec.{eqb, leb, ltb}
-use lib.ListN.{take, drop}
-use Rattle.law.specs.Words.{when, Every, oneOf, octet, numberAt, Piece, piece, laid}
+use lib.ListN.{length, take, drop}
+use Rattle.law.specs.Words.{when, Every, oneOf, Piece, piece, laid}
 use Rattle.law.specs.Sheet.{Sheet}
-use Rattle.law.specs.State.{link}
+use Rattle.law.specs.State.{link, commandLatch}
 use Rattle.law.specs.Memory.{cells, writable, hasAll}
-use Rattle.law.specs.Table.{Check, check, Row, table, parameter, n}
-use Rattle.law.specs.Exchange.{Fate, fate, lost, missed, refused, checked, judged, fateOf}
+use Rattle.law.specs.Table.{Check, check, Row, table, parameter, address, n}
+use Rattle.law.specs.Exchange.{Fate, fate, code, lost, missed, refused, checked, judged, headFor, fateOf}
 use Rattle.law.proofs.Laid.{when-yes, when-no}
 
 both : (a b : Bool) → a && b ≡ true → (a ≡ true) × (b ≡ true)
@@ -69,6 +69,10 @@ module _ (s : List ℕ) (P : Fate → Type 0) (not-done : (a : ℕ) → 1 ≤ a 
       (λ t. checked-by (check (oneOf (link s) (r .links)) 12 0 ∷ r .checks) r (p .0) (λ q. all .0 (q .0) (q .1)))
       (λ f. judged-by code rs (p .1) (all .1))
 
+-- how many octets the law's head has
+abbrev pub headSize : ℕ
+headSize = length (headFor [] 0 [])
+
 module _ (h : Sheet) (s m c : List ℕ) where
   named : namedRows (table h s m c) ≡ true
   named = refl
@@ -76,17 +80,17 @@ module _ (h : Sheet) (s m c : List ℕ) where
   pub fate-by : (P : Fate → Type 0) → P lost → ((a : ℕ) → 1 ≤ a → a < 16 → P (refused s a))
       → Every (λ (r : Row). oneOf (link s) (r .links) ≡ true → Every Holds (r .checks) → P (doneRow r)) (table h s m c) → P (fateOf h s m c)
   unfolding fateOf
-  fate-by P p r all = when-cases P (missed s c) (λ e. p) (λ e. judged-by s P r (octet c 0) (table h s m c) named all)
+  fate-by P p r all = when-cases P (missed s c) (λ e. p) (λ e. judged-by s P r (code c) (table h s m c) named all)
 
   abbrev row : Fate
-  row = judged s (octet c 0) (table h s m c)
+  row = judged s (code c) (table h s m c)
 
   -- a judged command is refused, or has no alarm
   pub row-refused : (row .alarm ≡ 0 → ⊥) → (1 ≤ row .alarm) × (row ≡ refused s (row .alarm))
   unfolding refused
   row-refused =
       judged-by s (λ f. (f .alarm ≡ 0 → ⊥) → (1 ≤ f .alarm) × (f ≡ refused s (f .alarm)))
-      (λ a l u z. (l, refl)) (octet c 0) (table h s m c) named
+      (λ a l u z. (l, refl)) (code c) (table h s m c) named
       (u, (u, (u, (u, (u, (u, (u, (u, (u, (u, (u, tt)))))))))))
     where
       u : {A B C : Type 0} → A → B → (_≡_ {A = ℕ} 0 0 → ⊥) → C
@@ -100,11 +104,11 @@ module _ (h : Sheet) (s m c : List ℕ) where
   unfolding fateOf
   fate-kept e = when-no _ _ e
 
-  -- no body reaches the reply's first four octets
-  pub fate-body : Every (λ (p : Piece). 4 ≤ p .first) (fateOf h s m c .body)
+  -- no body reaches into the reply's head
+  pub fate-body : Every (λ (p : Piece). headSize ≤ p .first) (fateOf h s m c .body)
   unfolding refused
   fate-body =
-      fate-by (λ f. Every (λ (p : Piece). 4 ≤ p .first) (f .body)) tt (λ a l u. tt) (
+      fate-by (λ f. Every (λ (p : Piece). headSize ≤ p .first) (f .body)) tt (λ a l u. tt) (
         λ a b. tt,
         (
           λ a b. (omega arith, (omega arith, tt)),
@@ -149,6 +153,13 @@ module _ (h : Sheet) (s m c : List ℕ) where
       z : 0 < 16
       z = omega arith
 
+  -- a size that is at most what L leaves behind a place
+  fits-behind : (asked size l from : ℕ) → eqb asked size ≡ true → leb asked (l - from) ≡ true → from ≤ l → from + size ≤ l
+  fits-behind asked size l from e u long = let p = eqb-true asked size e in let q = leb-true asked (l - from) u in omega arith
+
+  fits-least : (size l from : ℕ) → leb 1 size ≡ true → leb size (l - from) ≡ true → from + size ≤ l
+  fits-least size l from e u = let p = leb-true 1 size e in let q = leb-true size (l - from) u in omega arith
+
   -- what an accepted write stores: the command's own octets, which the link may write
   pub record Writing (f : Fate) : Type 0 where
     pub alarm : f .alarm ≡ 0
@@ -171,10 +182,10 @@ module _ (h : Sheet) (s m c : List ℕ) where
               alarm = refl;
               address = parameter h s m c .address;
               size = parameter h s m c .size;
-              from = 8;
+              from = _;
               stores = refl;
               right = b .1 .1 .1 .1 .0;
-              fits = (let e = eqb-true (octet c 6) (parameter h s m c .size) (b .1 .0) in let l = leb-true (octet c 6) (h .l - 8) (b .1 .1 .0) in let z : 8 + parameter h s m c .size ≤ h .l = omega arith in z);
+              fits = fits-behind _ (parameter h s m c .size) (h .l) _ (b .1 .0) (b .1 .1 .0) long;
             }),
             (
               λ a b. inl refl,
@@ -193,12 +204,12 @@ module _ (h : Sheet) (s m c : List ℕ) where
                           (
                             λ a b. inr (record {
                               alarm = refl;
-                              address = numberAt c 8 4;
+                              address = address h s m c;
                               size = n h s m c;
-                              from = 12;
+                              from = _;
                               stores = refl;
                               right = b .1 .1 .1 .1 .0;
-                              fits = (let e = leb-true 1 (n h s m c) (b .1 .0) in let l = leb-true (n h s m c) (h .l - 12) (b .1 .1 .0) in let z : 12 + n h s m c ≤ h .l = omega arith in z);
+                              fits = fits-least (n h s m c) (h .l) _ (b .1 .0) (b .1 .1 .0);
                             }),
                             tt,
                           ),
@@ -224,7 +235,7 @@ module _ (h : Sheet) (s m c : List ℕ) where
   unfolding refused laid when
   row-stays =
       judged-by s (λ f. link s ≡ 3 → laid (f .changes) 1 (link s) ≡ 2 → ⊥)
-      (λ a l u e q. same e (sym (latch-stays (eqb (octet s 8) 0) a (link s)) ∙ q)) (octet c 0) (table h s m c) named
+      (λ a l u e q. same e (sym (latch-stays (eqb (commandLatch s) 0) a (link s)) ∙ q)) (code c) (table h s m c) named
       (stay, (stay, (stay, (stay, (stay, (stay, (away 2 (omega arith), (away 1 (omega arith), (λ a b e q. let w : ⊥ = omega arith in w, (stay, (stay, tt)))))))))))
     where
       same : link s ≡ 3 → link s ≡ 2 → ⊥

@@ -8,11 +8,11 @@ use native.Mathlib.Omega.{arith}
 use borrow.Author.Tests.{eq-eqb}
 use lib.ListN.{length, getD}
 use Rattle.octets.proofs.Cases.{decided}
-use Rattle.law.specs.Words.{octet, Piece}
+use Rattle.law.specs.Words.{Piece}
 use Rattle.law.specs.Sheet.{Sheet}
 use Rattle.law.specs.Memory.{cells, stored}
 use Rattle.law.specs.Table.{table}
-use Rattle.law.specs.Exchange.{Fate, mn, missed, lost, refused, judged, fateOf, stateAfter}
+use Rattle.law.specs.Exchange.{Fate, code, mn, missed, lost, refused, judged, fateOf, stateAfter}
 use Rattle.law.proofs.Held.{length-cells}
 use Rattle.law.proofs.Laid.{stored-none}
 use Rattle.slave.specs.Answers.{told}
@@ -58,9 +58,9 @@ module _ (h : Sheet) (sheet s m c r : List ℕ) (a : Answered h sheet s m c r) w
   state-is : (f : Fate) → fateOf h s m c ≡ f → x .state ≡ stateAfter s (mn c) (f .changes)
   state-is f e = ap (λ (l : Left). l .state) is ∙ ap (λ (g : Fate). stateAfter s (mn c) (g .changes)) e
 
-  row-alarm : missed s c ≡ false → accepted h s m c ≡ false → judged s (octet c 0) (table h s m c) .alarm ≡ 0 → ⊥
+  row-alarm : missed s c ≡ false → accepted h s m c ≡ false → judged s (code c) (table h s m c) .alarm ≡ 0 → ⊥
   row-alarm t f z =
-      true-not-false (sym (ap₂ _&&_ (ap not t) (eq-eqb (judged s (octet c 0) (table h s m c) .alarm) 0 z)) ∙ f)
+      true-not-false (sym (ap₂ _&&_ (ap not t) (eq-eqb (judged s (code c) (table h s m c) .alarm) 0 z)) ∙ f)
 
   refused-body : (n : ℕ) → refused s n .body ≡ []
   unfolding refused
@@ -72,7 +72,7 @@ module _ (h : Sheet) (sheet s m c r : List ℕ) (a : Answered h sheet s m c r) w
 
   by-row : missed s c ≡ false → accepted h s m c ≡ false → RefusedByReply h s m c x
   by-row t f =
-      let row = judged s (octet c 0) (table h s m c) in
+      let row = judged s (code c) (table h s m c) in
       let k = fate-kept h s m c t in
       let q = row-refused h s m c (row-alarm t f) in
       let e : fateOf h s m c ≡ refused s (row .alarm) = k ∙ q .1 in

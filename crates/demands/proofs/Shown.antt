@@ -11,12 +11,12 @@ use lib.Dec.{eqb}
 use lib.ListN.{getD, drop}
 use lib.Seq.{getD-drop}
 use Rattle.octets.proofs.Cases.{decided}
-use Rattle.law.specs.Words.{when, Every, oneOf, octet, numberAt, piece}
+use Rattle.law.specs.Words.{when, Every, oneOf, Piece, piece}
 use Rattle.law.specs.Sheet.{Sheet}
 use Rattle.law.specs.State.{link}
 use Rattle.law.specs.Memory.{Cell, cells, readable, has, hasAll, heldAt, held}
-use Rattle.law.specs.Table.{Check, check, Row, again, table, parameter, n}
-use Rattle.law.specs.Exchange.{fate, missed, lost, checked, judged, fateOf}
+use Rattle.law.specs.Table.{Check, check, Row, table, parameter, address, n}
+use Rattle.law.specs.Exchange.{fate, code, missed, lost, checked, judged, fateOf}
 use Rattle.law.proofs.Laid.{when-yes, when-no}
 use Rattle.demands.specs.Writes.{cellAt}
 use Rattle.demands.proofs.Fates.{Holds, doneRow}
@@ -78,6 +78,10 @@ judged-same s code (r ∷ rs) (q ∷ qs) (t, ts) =
     let rest = judged-same s code rs qs ts in
     λ i. when (eqb code (t .code i)) (first i) (rest i)
 
+-- two reads of the same octets
+reads-alike : (echo : Piece) (from : ℕ) {x y : List ℕ} → x ≡ y → fate 0 [] (echo ∷ piece from x ∷ []) [] ≡ fate 0 [] (echo ∷ piece from y ∷ []) []
+reads-alike echo from e = ap (λ (z : List ℕ). fate 0 [] (echo ∷ piece from z ∷ []) []) e
+
 same-row : (r : Row) → Twin r r
 same-row r = record { code = refl; links = refl; checks = refl; done = λ all. refl }
 
@@ -92,7 +96,7 @@ module _ (h : Sheet) (s m₁ m₂ c : List ℕ) (agree : AgreeShown (cells (h .r
             code = refl;
             links = refl;
             checks = refl;
-            done = λ all. ap (λ (x : List ℕ). fate 0 [] (again c 4 6 ∷ piece 8 x ∷ []) [])
+            done = λ all. reads-alike _ _
                 (held-same cs m₁ m₂ (parameter h s m₁ c .address) (parameter h s m₁ c .size) agree (all .1 .1 .1 .1 .0));
           },
           (
@@ -114,7 +118,7 @@ module _ (h : Sheet) (s m₁ m₂ c : List ℕ) (agree : AgreeShown (cells (h .r
                             code = refl;
                             links = refl;
                             checks = refl;
-                            done = λ all. ap (λ (x : List ℕ). fate 0 [] (again c 5 11 ∷ piece 12 x ∷ []) []) (held-same cs m₁ m₂ (numberAt c 8 4) (n h s m₁ c) agree (all .1 .1 .1 .1 .0));
+                            done = λ all. reads-alike _ _ (held-same cs m₁ m₂ (address h s m₁ c) (n h s m₁ c) agree (all .1 .1 .1 .1 .0));
                           },
                           (
                             same-row _,
@@ -131,8 +135,8 @@ module _ (h : Sheet) (s m₁ m₂ c : List ℕ) (agree : AgreeShown (cells (h .r
         ),
       )
 
-  pub row-same : judged s (octet c 0) (table h s m₁ c) ≡ judged s (octet c 0) (table h s m₂ c)
-  row-same = judged-same s (octet c 0) (table h s m₁ c) (table h s m₂ c) twins
+  pub row-same : judged s (code c) (table h s m₁ c) ≡ judged s (code c) (table h s m₂ c)
+  row-same = judged-same s (code c) (table h s m₁ c) (table h s m₂ c) twins
 
   pub fate-same : fateOf h s m₁ c ≡ fateOf h s m₂ c
   unfolding fateOf

@@ -16,10 +16,10 @@ use Rattle.machine.specs.declared.words.Effect.{Effect}
 use Rattle.machine.specs.declared.words.Effect.the-variants.{Quiet, Reads, Writes, Identifies, Alarms, Connects}
 use Rattle.machine.specs.declared.words.Outcome.{Outcome}
 use Rattle.machine.proofs.Alike.{identified}
-use Rattle.frame.specs.Body.{memoryAfter, replyOf, Fitting}
+use Rattle.frame.specs.Body.{dataFrom, echoFrom, echoSize, memoryAfter, replyOf, Fitting}
 use Rattle.frame.specs.Fields.{commandOf}
 use Rattle.frame.specs.Head.{rwdtOf, statusOf, headOf}
-use Rattle.frame.proofs.Bodies.{bodyAt}
+use Rattle.frame.proofs.Bodies.{carriedAt, bodyAt}
 use Rattle.frame.proofs.Named.{named, command-named}
 use Rattle.frame.proofs.Replies.{whole, head-at, body-at}
 
@@ -47,7 +47,7 @@ module _ (a₀ a₁ x₂ x₃ y₂ y₃ : ℕ) (t : List ℕ) where
   command-alike = command-named d ∙ sym (ap (λ (x : Command). identified x (y₂ / 64)) (command-named c))
 
   pub memory-alike : (e : Effect) (m : List ℕ) → memoryAfter e c m ≡ memoryAfter e d m
-  unfolding memoryAfter part
+  unfolding memoryAfter dataFrom part
   memory-alike Quiet m = refl
   memory-alike (Reads by place n) m = refl
   memory-alike (Writes Parameter place n) m = refl
@@ -57,7 +57,7 @@ module _ (a₀ a₁ x₂ x₃ y₂ y₃ : ℕ) (t : List ℕ) where
   memory-alike Connects m = refl
 
   body-alike : (e : Effect) (sheet m : List ℕ) (k : ℕ) → bodyAt e sheet m c k 0 ≡ bodyAt e sheet m d k 0
-  unfolding part
+  unfolding bodyAt carriedAt dataFrom echoFrom echoSize part
   body-alike Quiet sheet m k = refl
   body-alike (Reads Parameter place n) sheet m k = refl
   body-alike (Reads Memory place n) sheet m k = refl

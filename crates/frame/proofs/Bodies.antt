@@ -44,11 +44,11 @@ put-told d at s fits k =
     (lt-or-le k at)
 
 -- a carrier's fields again, and its data
-abbrev pub carriedAt : Carrier → List ℕ → List ℕ → ℕ → ℕ → ℕ
+unfoldable pub carriedAt : Carrier → List ℕ → List ℕ → ℕ → ℕ → ℕ
 carriedAt by octets c k old = laidAt (dataFrom by) octets k (laidAt (echoFrom by) (part c (echoFrom by) (echoSize by)) k old)
 
 -- octet k of a reply behind an effect, over what stood there
-abbrev pub bodyAt : Effect → List ℕ → List ℕ → List ℕ → ℕ → ℕ → ℕ
+unfoldable pub bodyAt : Effect → List ℕ → List ℕ → List ℕ → ℕ → ℕ → ℕ
 bodyAt Quiet sheet m c k old = old
 bodyAt (Reads by place n) sheet m c k old = carriedAt by (part m place n) c k old
 bodyAt (Writes by place n) sheet m c k old = carriedAt by (part c (dataFrom by) n) c k old
@@ -56,12 +56,57 @@ bodyAt (Identifies at n) sheet m c k old = laidAt 8 (part sheet at n) k (laidAt 
 bodyAt (Alarms command communication) sheet m c k old = laidAt 8 (command ∷ communication ∷ []) k old
 bodyAt Connects sheet m c k old = laidAt 4 (part c 4 4) k old
 
+-- where a carrier's data begins
+pub parameter-data : dataFrom Parameter ≡ 8
+unfolding dataFrom
+parameter-data = refl
+
+pub memory-data : dataFrom Memory ≡ 12
+unfolding dataFrom
+memory-data = refl
+
+-- each effect's body, octet by octet
+module _ (sheet m c : List ℕ) (k old : ℕ) where
+  pub quiet-at : bodyAt Quiet sheet m c k old ≡ old
+  unfolding bodyAt
+  quiet-at = refl
+
+  pub reads-at : (by : Carrier) (place n : ℕ) → bodyAt (Reads by place n) sheet m c k old ≡ carriedAt by (part m place n) c k old
+  unfolding bodyAt
+  reads-at by place n = refl
+
+  pub writes-at : (by : Carrier) (place n : ℕ) → bodyAt (Writes by place n) sheet m c k old ≡ carriedAt by (part c (dataFrom by) n) c k old
+  unfolding bodyAt
+  writes-at by place n = refl
+
+  pub parameter-at : (octets : List ℕ) → carriedAt Parameter octets c k old ≡ laidAt 8 octets k (laidAt 4 (part c 4 3) k old)
+  unfolding carriedAt dataFrom echoFrom echoSize
+  parameter-at octets = refl
+
+  pub memory-at : (octets : List ℕ) → carriedAt Memory octets c k old ≡ laidAt 12 octets k (laidAt 5 (part c 5 7) k old)
+  unfolding carriedAt dataFrom echoFrom echoSize
+  memory-at octets = refl
+
+  pub identifies-at : (at n : ℕ) → bodyAt (Identifies at n) sheet m c k old ≡ laidAt 8 (part sheet at n) k (laidAt 4 (part c 4 4) k old)
+  unfolding bodyAt
+  identifies-at at n = refl
+
+  pub alarms-at : (command communication : ℕ) → bodyAt (Alarms command communication) sheet m c k old ≡ laidAt 8 (command ∷ communication ∷ []) k old
+  unfolding bodyAt
+  alarms-at command communication = refl
+
+  pub connects-at : bodyAt Connects sheet m c k old ≡ laidAt 4 (part c 4 4) k old
+  unfolding bodyAt
+  connects-at = refl
+
 -- no body reaches into the head: data and fields stand behind it
 carried-behind : (by : Carrier) (octets c : List ℕ) (k old : ℕ) → k < 4 → carriedAt by octets c k old ≡ old
+unfolding carriedAt dataFrom echoFrom echoSize
 carried-behind Parameter octets c k old l = laid-before 8 octets k (laidAt 4 (part c 4 3) k old) (omega arith) ∙ laid-before 4 (part c 4 3) k old l
 carried-behind Memory octets c k old l = laid-before 12 octets k (laidAt 5 (part c 5 7) k old) (omega arith) ∙ laid-before 5 (part c 5 7) k old (omega arith)
 
 pub body-behind : (e : Effect) (sheet m c : List ℕ) (k old : ℕ) → k < 4 → bodyAt e sheet m c k old ≡ old
+unfolding bodyAt
 body-behind Quiet sheet m c k old l = refl
 body-behind (Reads by place n) sheet m c k old l = carried-behind by (part m place n) c k old l
 body-behind (Writes by place n) sheet m c k old l = carried-behind by (part c (dataFrom by) n) c k old l
@@ -88,11 +133,12 @@ module _ (sheet m c d : List ℕ) (same : length c ≡ length d) where
   Told e = (length (bodyOf e sheet m c d) ≡ length d) × ((k : ℕ) → getD (bodyOf e sheet m c d) k 0 ≡ bodyAt e sheet m c k (getD d k 0))
 
   echo-room : (by : Carrier) (n : ℕ) → dataFrom by + n ≤ length d → echoFrom by + length (part c (echoFrom by) (echoSize by)) ≤ length d
+  unfolding dataFrom echoFrom echoSize
   echo-room Parameter n f = let e = part-length c 4 3 (omega arith) in omega arith
   echo-room Memory n f = let e = part-length c 5 7 (omega arith) in omega arith
 
   pub body-told : (e : Effect) → Fitting e (length d) (length m) (length sheet) → Told e
-  unfolding bodyOf
+  unfolding bodyOf Fitting bodyAt carriedAt
   body-told Quiet f = (refl, λ k. refl)
   body-told (Reads by place n) f =
       let p = part-length m place n (f .1) in

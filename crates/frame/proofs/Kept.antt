@@ -38,7 +38,7 @@ module _ (c m : List ℕ) where
 
   -- an effect that fits keeps the memory's length
   pub memory-length : (e : Effect) (s : ℕ) → Fitting e (length c) (length m) s → length (memoryAfter e c m) ≡ length m
-  unfolding memoryAfter
+  unfolding memoryAfter Fitting
   memory-length Quiet s f = refl
   memory-length (Reads by place n) s f = refl
   memory-length (Writes by place n) s f =

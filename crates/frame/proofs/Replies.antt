@@ -1,8 +1,8 @@
 -- What a reply tells: the laws that everything above a frame uses.
 use mathlib.Core.Bool.{Bool, true, false, _&&_}
 use mathlib.Core.Path.{_≡_, refl, sym, ap, subst, _∙_}
-use mathlib.Core.List.{List}
-use Prim.Native.Nat.{ℕ, _+_, _*_, _/_, _%_, _≤_, _<_}
+use mathlib.Core.List.{List, [], _∷_}
+use Prim.Native.Nat.{ℕ, zero, suc, _+_, _*_, _/_, _%_, _≤_, _<_}
 use native.Mathlib.Omega.{arith}
 use lib.Dec.{eqb}
 use lib.ListN.{length, getD, replicate, length-replicate, getD-replicate}
@@ -16,7 +16,7 @@ use Rattle.machine.specs.declared.words.Outcome.{Outcome}
 use Rattle.frame.specs.Body.{bodyOf, replyOf, Fitting}
 use Rattle.frame.specs.Fields.{commandOf}
 use Rattle.frame.specs.Head.{rwdtOf, statusOf, headOf}
-use Rattle.frame.proofs.Bodies.{bodyAt, body-behind, body-told}
+use Rattle.frame.proofs.Bodies.{bodyAt, quiet-at, body-behind, body-told}
 
 -- head and body, built one after the other, are the reply
 module _ (sheet memory command reply : List ℕ) (o : Outcome) (c : Command) (begun built : List ℕ) where
@@ -100,6 +100,19 @@ module _ (sheet m c : List ℕ) (o : Outcome) (long : 8 ≤ length c) (fits : Fi
   unfolding headOf statusOf
   alarm-told a l = head-at 3 (omega arith) ∙ high (eqb (o .next .latches .command) 0 && eqb (o .next .latches .communication) 0) (commandOf c .identity) (o .alarm) (o .next .latches .communication) a l
 
+  -- the head, octet by octet
+  pub head-told : o .next .watch .rsn < 16 → o .alarm < 16 → o .next .latches .communication < 16 → (k : ℕ) → k < 4 → getD reply k 0 ≡ getD (
+      commandOf c .code
+      ∷ pick (eqb (o .next .link) 3) (16 * o .next .watch .rsn + commandOf c .wdt % 16) 0
+      ∷ (4 + pick (eqb (o .next .latches .command) 0 && eqb (o .next .latches .communication) 0) 0 1 + 64 * (commandOf c .identity % 4))
+      ∷ (o .alarm + 16 * o .next .latches .communication)
+      ∷ []) k 0
+  head-told rsn alarm latch zero l = code-again
+  head-told rsn alarm latch (suc zero) l = rwdt-told rsn
+  head-told rsn alarm latch (suc (suc zero)) l = latched-told
+  head-told rsn alarm latch (suc (suc (suc zero))) l = alarm-told alarm latch
+  head-told rsn alarm latch (suc (suc (suc (suc k)))) l = absurd (let w : ⊥ = omega arith in w)
+
   -- the body, octet by octet
   pub body-at : (k : ℕ) → 4 ≤ k → k < length c → getD reply k 0 ≡ bodyAt (o .effect) sheet m c k 0
   unfolding headOf
@@ -109,4 +122,4 @@ module _ (sheet m c : List ℕ) (o : Outcome) (long : 8 ≤ length c) (fits : Fi
 
   -- a refused command's body is zero
   pub body-zero : o .effect ≡ Quiet → (k : ℕ) → 4 ≤ k → k < length c → getD reply k 0 ≡ 0
-  body-zero e k l u = body-at k l u ∙ ap (λ (x : Effect). bodyAt x sheet m c k 0) e
+  body-zero e k l u = body-at k l u ∙ ap (λ (x : Effect). bodyAt x sheet m c k 0) e ∙ quiet-at sheet m c k 0

@@ -13,16 +13,16 @@ use Rattle.frame.specs.Fields.{commandOf}
 use Rattle.frame.specs.Head.{headOf}
 
 -- the data stands from octet 8 on for parameters, and from octet 12 on for memory
-abbrev pub dataFrom : Carrier → ℕ
+unfoldable pub dataFrom : Carrier → ℕ
 dataFrom Parameter = 8
 dataFrom Memory = 12
 
 -- "octets 4 to 6 again" for parameters, "5 to 11 again" for memory
-abbrev pub echoFrom : Carrier → ℕ
+unfoldable pub echoFrom : Carrier → ℕ
 echoFrom Parameter = 4
 echoFrom Memory = 5
 
-abbrev pub echoSize : Carrier → ℕ
+unfoldable pub echoSize : Carrier → ℕ
 echoSize Parameter = 3
 echoSize Memory = 7
 
@@ -60,7 +60,7 @@ memoryAfter (Alarms old fault) command memory = memory
 memoryAfter Connects command memory = memory
 
 -- an effect that fits: a PDU of l octets, m octets of memory, s octets of sheet
-abbrev pub Fitting : Effect → ℕ → ℕ → ℕ → Type 0
+unfoldable pub Fitting : Effect → ℕ → ℕ → ℕ → Type 0
 Fitting Quiet l m s = Unit {0}
 Fitting (Reads by place n) l m s = (dataFrom by + n ≤ l) × (place + n ≤ m)
 Fitting (Writes by place n) l m s = (dataFrom by + n ≤ l) × (place + n ≤ m)
@@ -69,7 +69,7 @@ Fitting (Alarms old fault) l m s = 10 ≤ l
 Fitting Connects l m s = 8 ≤ l
 
 -- a write that fits, and any effect that is none
-abbrev pub Storing : Effect → ℕ → ℕ → Type 0
+unfoldable pub Storing : Effect → ℕ → ℕ → Type 0
 Storing Quiet l m = Unit {0}
 Storing (Reads by place n) l m = Unit {0}
 Storing (Writes by place n) l m = (dataFrom by + n ≤ l) × (place + n ≤ m)

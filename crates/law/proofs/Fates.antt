@@ -11,6 +11,7 @@ use lib.ListN.{length, getD}
 use Rattle.octets.specs.Pick.{pick}
 use Rattle.octets.proofs.Cases.{eq-or-ne}
 use Rattle.frame.specs.Fields.{commandOf}
+use Rattle.frame.proofs.Bodies.{quiet-at}
 use Rattle.frame.proofs.Kept.{quiet-keeps}
 use Rattle.frame.proofs.Named.{named, command-named}
 use Rattle.law.proofs.Layouts.{layoutFor}
@@ -19,7 +20,7 @@ use Rattle.law.specs.Sheet.{Sheet}
 use Rattle.law.specs.State.{link}
 use Rattle.law.specs.Memory.{readable, writable}
 use Rattle.law.specs.Table.{check, Row, row, table}
-use Rattle.law.specs.Exchange.{Fate, fate, refused, checked, judged, fateOf}
+use Rattle.law.specs.Exchange.{Fate, fate, code, mn, refused, checked, judged, lost as lostCycle, fateOf}
 use Rattle.link.specs.Steps.{followsOf, lost, synced, dropped}
 use Rattle.link.specs.Stored.{octetsOf}
 use Rattle.link.specs.declared.state.LinkState.{LinkState}
@@ -38,7 +39,7 @@ use Rattle.machine.specs.declared.words.Judgement.the-variants.{Refused, Accept
 use Rattle.law.proofs.Laid.{when-no}
 use Rattle.law.proofs.Goes.{in-links, Goes, goes-dropped, goes-synced, goes-lost}
 use Rattle.law.proofs.World.{World}
-use Rattle.law.proofs.Rows.{Same, J, refusing, via, step, quiet, kept, unmoved, alarms-row, clear-row, param-row, connect-row, mem-row, item-row}
+use Rattle.law.proofs.Rows.{nth, Same, J, refusing, via, step, quiet, kept, unmoved, alarms-row, clear-row, param-row, connect-row, mem-row, item-row}
 
 -- a code is one of the eleven, or none
 by-code : (P : ℕ → Type 0) → P 0x00 → P 0x01 → P 0x02 → P 0x03 → P 0x05 → P 0x06 → P 0x0D → P 0x0E → P 0x0F → P 0x1D → P 0x1E
@@ -69,11 +70,6 @@ unfolding isKnown
 not-known n z0 z1 z2 z3 z4 z5 z6 z7 z8 z9 z10 =
     ap₂ _||_ (ap₂ _||_ (ap₂ _||_ (ap₂ _||_ (ap₂ _||_ (ap₂ _||_ (ap₂ _||_ (ap₂ _||_ (ap₂ _||_ (ap₂ _||_ (ne-eqb n 0x00 z0) (ne-eqb n 0x01 z1)) (ne-eqb n 0x02 z2)) (ne-eqb n 0x03 z3)) (ne-eqb n 0x05 z4)) (ne-eqb n 0x06 z5)) (ne-eqb n 0x0D z6)) (ne-eqb n 0x0E z7)) (ne-eqb n 0x0F z8)) (ne-eqb n 0x1D z9)) (ne-eqb n 0x1E z10)
 
-abbrev nth : List Row → ℕ → Row
-nth [] i = row 0 [] [] [] [] []
-nth (r ∷ rs) zero = r
-nth (r ∷ rs) (suc i) = nth rs i
-
 module _ (h : Sheet) (sheet : List ℕ) (st : LinkState) (m c : List ℕ) (facts : Facts (h .l) st) (on : st .link ≡ 0 → ⊥) (world : World h sheet m) (asked : length c ≡ h .l) where
   abbrev s : List ℕ
   s = octetsOf st
@@ -88,7 +84,7 @@ module _ (h : Sheet) (sheet : List ℕ) (st : LinkState) (m c : List ℕ) (facts
   step-here : (t b : Bool) (a : ℕ) {y : Judgement} {f : Fate} → t ≡ not b → (b ≡ true → Is y f) → Is (pick t (Refused a) y) (when b f (refused s a))
   step-here = step h sheet st m c facts on world asked
 
-  quiet-here : (next : LinkState) (ps : List Piece) → Goes st (counting st next (getD c 1 0 % 16)) (getD c 1 0 % 16) ps → Is (Accepted Quiet next) (fate 0 ps [] [])
+  quiet-here : (next : LinkState) (ps : List Piece) → Goes st (counting st next (mn c)) (mn c) ps → Is (Accepted Quiet next) (fate 0 ps [] [])
   quiet-here = quiet h sheet st m c facts on world asked
 
   -- a known code: its row
@@ -134,22 +130,22 @@ module _ (h : Sheet) (sheet : List ℕ) (st : LinkState) (m c : List ℕ) (facts
       (known 0x00 _ (nth (table h s m c) 0) refl (allows 0x00 (1 ∷ 2 ∷ 3 ∷ []) refl refl refl) refl refl (λ a. quiet-here st [] (kept h sheet st m c facts on world asked)))
       (known 0x01 _ (nth (table h s m c) 1) refl (allows 0x01 (2 ∷ 3 ∷ []) refl refl refl) refl refl (λ a. param-row h sheet st m c facts on world asked 0x01 false readable read-is 0 [] []))
       (known 0x02 _ (nth (table h s m c) 2) refl (allows 0x02 (2 ∷ 3 ∷ []) refl refl refl) refl refl (λ a. param-row h sheet st m c facts on world asked 0x02 true (writable (link s)) write-is 0 [] []))
-      (known 0x03 _ (nth (table h s m c) 3) refl (allows 0x03 (2 ∷ 3 ∷ []) refl refl refl) refl refl (λ a. item-row h sheet st m c facts on world asked 0x03 0 [] []))
-      (known 0x05 _ (nth (table h s m c) 4) refl (allows 0x05 (2 ∷ 3 ∷ []) refl refl refl) refl refl (λ a. alarms-row h sheet st m c facts on world asked 0x05 0 [] []))
-      (known 0x06 _ (nth (table h s m c) 5) refl (allows 0x06 (2 ∷ 3 ∷ []) refl refl refl) refl refl (λ a. clear-row h sheet st m c facts on world asked 0x06 0 [] []))
-      (known 0x0D _ (nth (table h s m c) 6) refl (allows 0x0D (2 ∷ []) refl refl refl) refl refl (λ a. quiet-here (synced st) _ (goes-synced (getD c 1 0 % 16) st facts on a)))
-      (known 0x0E _ (nth (table h s m c) 7) refl (allows 0x0E (1 ∷ []) refl refl refl) refl refl (λ a. connect-row h sheet st m c facts on world asked 0x0E 0 [] [] a))
-      (known 0x0F _ (nth (table h s m c) 8) refl (allows 0x0F (1 ∷ 2 ∷ 3 ∷ []) refl refl refl) refl refl (λ a. quiet-here (dropped st) _ (goes-dropped (getD c 1 0 % 16) st facts on)))
+      (known 0x03 _ (nth (table h s m c) 3) refl (allows 0x03 (2 ∷ 3 ∷ []) refl refl refl) refl refl (λ a. item-row h sheet st m c facts on world asked 0x03))
+      (known 0x05 _ (nth (table h s m c) 4) refl (allows 0x05 (2 ∷ 3 ∷ []) refl refl refl) refl refl (λ a. alarms-row h sheet st m c facts on world asked 0x05))
+      (known 0x06 _ (nth (table h s m c) 5) refl (allows 0x06 (2 ∷ 3 ∷ []) refl refl refl) refl refl (λ a. clear-row h sheet st m c facts on world asked 0x06))
+      (known 0x0D _ (nth (table h s m c) 6) refl (allows 0x0D (2 ∷ []) refl refl refl) refl refl (λ a. quiet-here (synced st) _ (goes-synced (mn c) st facts on a)))
+      (known 0x0E _ (nth (table h s m c) 7) refl (allows 0x0E (1 ∷ []) refl refl refl) refl refl (λ a. connect-row h sheet st m c facts on world asked 0x0E a))
+      (known 0x0F _ (nth (table h s m c) 8) refl (allows 0x0F (1 ∷ 2 ∷ 3 ∷ []) refl refl refl) refl refl (λ a. quiet-here (dropped st) _ (goes-dropped (mn c) st facts on)))
       (known 0x1D _ (nth (table h s m c) 9) refl (allows 0x1D (2 ∷ 3 ∷ []) refl refl refl) refl refl (λ a. mem-row h sheet st m c facts on world asked 0x1D false readable read-is 0 [] []))
       (known 0x1E _ (nth (table h s m c) 10) refl (allows 0x1E (2 ∷ 3 ∷ []) refl refl refl) refl refl (λ a. mem-row h sheet st m c facts on world asked 0x1E true (writable (link s)) write-is 0 [] []))
       unknown-code
 
   -- check 1
   lost-or : (b : Bool) {y : Judgement} {f : Fate} → (b ≡ true → eqb (link s) 3 ≡ true) → Is y f
-      → Same h sheet st m c (pick b (comesTo 0 Quiet (lost st)) (finished st (named (getD c 0 0) c) y)) (when b (fate 0 (piece 1 (2 ∷ []) ∷ piece 9 (12 ∷ []) ∷ []) [] []) f)
+      → Same h sheet st m c (pick b (comesTo 0 Quiet (lost st)) (finished st (named (code c) c) y)) (when b lostCycle f)
   unfolding pick when laid
   lost-or true g k =
-      record { alarm = refl; next = goes-lost (getD c 1 0 % 16) st facts on (g refl); body = λ k old. refl; memory = quiet-keeps c m ∙ unmoved h sheet st m c facts on world asked }
+      record { alarm = refl; next = goes-lost (mn c) st facts on (g refl); body = λ k old. quiet-at sheet m c k old; memory = quiet-keeps c m ∙ unmoved h sheet st m c facts on world asked }
   lost-or false g k = k .same
 
   -- "Link 3 with MN known": MN known is 0 or 1
@@ -158,13 +154,13 @@ module _ (h : Sheet) (sheet : List ℕ) (st : LinkState) (m c : List ℕ) (facts
   follows (suc zero) l b = refl
   follows (suc (suc n)) l b = absurd (let w : ⊥ = omega arith in w)
 
-  named-same : Same h sheet st m c (outcomeOf sheet (layoutFor h) st (named (getD c 0 0) c)) (fateOf h s m c)
+  named-same : Same h sheet st m c (outcomeOf sheet (layoutFor h) st (named (code c) c)) (fateOf h s m c)
   unfolding outcomeOf fateOf followsOf octetsOf
   named-same =
-      let n = named (getD c 0 0) c in
+      let n = named (code c) c in
       subst (λ (b : Bool). Same h sheet st m c (pick (eqb (st .link) 3 && b) (comesTo 0 Quiet (lost st)) (finished st n (judgeOf sheet (layoutFor h) st n))) (fateOf h s m c))
-      (sym (follows (st .watch .known) (facts .known) (eqb (getD c 1 0 % 16) ((st .watch .last + 1) % 16))))
-      (lost-or _ (λ e. and-first _ _ e) (judge-same (getD c 0 0)))
+      (sym (follows (st .watch .known) (facts .known) (eqb (mn c) ((st .watch .last + 1) % 16))))
+      (lost-or _ (λ e. and-first _ _ e) (judge-same (code c)))
 
   pub outcome-same : Same h sheet st m c (outcomeOf sheet (layoutFor h) st (commandOf c)) (fateOf h s m c)
   outcome-same = subst (λ (x : Command). Same h sheet st m c (outcomeOf sheet (layoutFor h) st x) (fateOf h s m c)) (sym (command-named c)) named-same

@@ -109,8 +109,13 @@ param-missing (p ∷ ps) n e =
     pick-ne _ _ q ∙ param-missing ps n (sym (ap (λ (b : Bool). b || oneOf n (map (λ (p : Param). p .number) ps)) f) ∙ e))
     (eq-or-ne (p .number) n)
 
-pub four-octets : (c : List ℕ) → le4At c 8 ≡ numberAt c 8 4
-four-octets c = omega arith
+pub four-octets : (c : List ℕ) (i : ℕ) → le4At c i ≡ numberAt c i 4
+four-octets c i =
+    let at : (j k : ℕ) → j ≡ k → getD c j 0 ≡ getD c k 0 = λ j k e. ap (λ (n : ℕ). getD c n 0) e in
+    let a = at (i + 1) (suc i) (omega arith) in
+    let b = at (i + 2) (suc (suc i)) (omega arith) in
+    let d = at (i + 3) (suc (suc (suc i))) (omega arith) in
+    omega arith
 
 -- octet 5 of the memory commands
 pub elements : (x : ℕ) → elementOf x ≡ element x

@@ -14,11 +14,11 @@ use Rattle.octets.proofs.Cases.{eq-or-ne, lt-or-le}
 use Rattle.frame.specs.Body.{replyOf, Fitting}
 use Rattle.frame.proofs.Bodies.{body-behind}
 use Rattle.frame.proofs.Named.{command-named}
-use Rattle.frame.proofs.Replies.{whole, code-again, rwdt-told, latched-told, alarm-told, body-at}
+use Rattle.frame.proofs.Replies.{whole, head-told, body-at}
 use Rattle.law.specs.Words.{when, piece, laid, over}
 use Rattle.law.specs.Sheet.{Sheet}
 use Rattle.law.specs.Table.{Check, Row, table}
-use Rattle.law.specs.Exchange.{Fate, refused, checked, judged, fateOf, stateAfter, headFor, replyFor}
+use Rattle.law.specs.Exchange.{Fate, code, mn, identity, refused, checked, judged, fateOf, stateAfter, headFor, replyFor}
 use Rattle.link.specs.Stored.{octetsOf}
 use Rattle.link.specs.Valid.{isCommunicationAlarm}
 use Rattle.link.specs.declared.state.LinkState.{LinkState}
@@ -69,7 +69,7 @@ judged-small s code (r ∷ rs) e =
 
 pub fate-small : (h : Sheet) (s m c : List ℕ) → Small (fateOf h s m c)
 unfolding fateOf
-fate-small h s m c = when-both Small _ (let z : 0 < 16 = omega arith in z) (judged-small s (getD c 0 0) (table h s m c) refl)
+fate-small h s m c = when-both Small _ (let z : 0 < 16 = omega arith in z) (judged-small s (code c) (table h s m c) refl)
 
 small-latch : (co : ℕ) → isCommunicationAlarm co ≡ true → co < 16
 unfolding isCommunicationAlarm
@@ -84,7 +84,7 @@ small-latch co e =
 module _ (h : Sheet) (sheet : List ℕ) (st : LinkState) (m c : List ℕ) (o : Outcome) (f : Fate) (same : Same h sheet st m c o f) (small : f .alarm < 16)
     (v : Facts (h .l) (o .next)) (asked : length c ≡ h .l) (long : 8 ≤ h .l) (fits : Fitting (o .effect) (length c) (length m) (length sheet)) where
   abbrev t : List ℕ
-  t = stateAfter (octetsOf st) (getD c 1 0 % 16) (f .changes)
+  t = stateAfter (octetsOf st) (mn c) (f .changes)
 
   -- the head by a state record and an alarm
   abbrev head : List ℕ → ℕ → List ℕ
@@ -96,36 +96,30 @@ module _ (h : Sheet) (sheet : List ℕ) (st : LinkState) (m c : List ℕ) (o : O
   long-enough : 8 ≤ length c
   long-enough = omega arith
 
-  in-head : (k : ℕ) → k < 4 → getD reply k 0 ≡ getD (head (octetsOf (o .next)) (o .alarm)) k 0
+  in-head : (k : ℕ) → k < length (head (octetsOf (o .next)) (o .alarm)) → getD reply k 0 ≡ getD (head (octetsOf (o .next)) (o .alarm)) k 0
   unfolding octetsOf
-  in-head zero l = code-again sheet m c o long-enough fits ∙ ap (λ (x : Command). x .code) (command-named c)
-  in-head (suc zero) l =
+  in-head k l =
       let rsn = v .rsn in
-      rwdt-told sheet m c o long-enough fits (omega arith)
-      ∙ ap (λ (x : Command). pick (eqb (o .next .link) 3) (16 * o .next .watch .rsn + x .wdt % 16) 0) (command-named c)
-      ∙ picked (eqb (o .next .link) 3) (16 * o .next .watch .rsn + getD c 1 0 % 16) 0
-  in-head (suc (suc zero)) l =
-      latched-told sheet m c o long-enough fits
-      ∙ ap (λ (x : Command). 4 + pick (eqb (o .next .latches .command) 0 && eqb (o .next .latches .communication) 0) 0 1 + 64 * (x .identity % 4)) (command-named c)
-      ∙ ap (λ (x : ℕ). 4 + x + 64 * (getD c 2 0 / 64 % 4)) (picked (eqb (o .next .latches .command) 0 && eqb (o .next .latches .communication) 0) 0 1)
-  in-head (suc (suc (suc zero))) l =
       let alarm = same .alarm in
-      alarm-told sheet m c o long-enough fits (omega arith) (small-latch (o .next .latches .communication) (v .communication))
-  in-head (suc (suc (suc (suc k)))) l = absurd (let w : ⊥ = omega arith in w)
+      let quiet = eqb (o .next .latches .command) 0 && eqb (o .next .latches .communication) 0 in
+      let high = o .alarm + 16 * o .next .latches .communication in
+      head-told sheet m c o long-enough fits (omega arith) (omega arith) (small-latch (o .next .latches .communication) (v .communication)) k l
+      ∙ ap (λ (x : Command). getD (x .code ∷ pick (eqb (o .next .link) 3) (16 * o .next .watch .rsn + x .wdt % 16) 0 ∷ (4 + pick quiet 0 1 + 64 * (x .identity % 4)) ∷ high ∷ []) k 0) (command-named c)
+      ∙ ap₂ (λ (r b : ℕ). getD (code c ∷ r ∷ (4 + b + 64 * identity c) ∷ high ∷ []) k 0) (picked (eqb (o .next .link) 3) (16 * o .next .watch .rsn + mn c) 0) (picked quiet 0 1)
 
   head-is : head (octetsOf (o .next)) (o .alarm) ≡ head t (f .alarm)
   head-is = ap₂ head (same .next) (same .alarm)
 
   octet-same : (k : ℕ) → k < length c → getD reply k 0 ≡ laid (f .body) k (lies (piece 0 (head t (f .alarm))) k 0)
   octet-same k u =
-      ⊎-elim (λ (a : k < 4).
+      ⊎-elim (λ (a : k < length (head t (f .alarm))).
       let x = getD (head t (f .alarm)) k 0 in
       in-head k a ∙ ap (λ (l : List ℕ). getD l k 0) head-is ∙ sym (body-behind (o .effect) sheet m c k x a) ∙ same .body k x
       ∙ ap (laid (f .body) k) (ap (λ (n : ℕ). getD (head t (f .alarm)) n 0) (let e : k ≡ k - 0 = omega arith in e)
       ∙ sym (lies-here (piece 0 (head t (f .alarm))) k 0 (omega arith) (omega arith))))
-      (λ (a : 4 ≤ k).
+      (λ (a : length (head t (f .alarm)) ≤ k).
       body-at sheet m c o long-enough fits k a u ∙ same .body k 0 ∙ ap (laid (f .body) k) (sym (lies-past (piece 0 (head t (f .alarm))) k 0 (omega arith))))
-      (lt-or-le k 4)
+      (lt-or-le k (length (head t (f .alarm))))
 
   pub reply-same : reply ≡ replyFor h c (f .alarm) t (f .body)
   unfolding replyFor laid

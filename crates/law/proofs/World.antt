@@ -5,14 +5,11 @@ use mathlib.Core.List.{List, [], _∷_, map}
 use Prim.Native.Nat.{ℕ, _+_, _≤_}
 use lib.ListN.{length, take, drop}
 use Rattle.octets.specs.Parts.{part, putAt}
-use Rattle.frame.specs.Body.{dataFrom}
 use Rattle.law.specs.Words.{oneOf, Piece, piece}
 use Rattle.law.specs.Sheet.{Item as Ident, Sheet}
 use Rattle.law.specs.Memory.{Cell, cells, stored, held, hasAll, mapped}
-use Rattle.law.specs.Table.{again, itemOf as identOf}
+use Rattle.law.specs.Table.{itemOf as identOf}
 use Rattle.machine.specs.Spans.{spanPlace}
-use Rattle.machine.specs.declared.words.Carrier.{Carrier}
-use Rattle.machine.specs.declared.words.Carrier.the-variants.{Parameter, Memory}
 use Rattle.regions.specs.Region.{regionsOf, givesOf}
 use Rattle.regions.specs.declared.Right.the-variants.{Mapped}
 use Rattle.sheet.specs.Entries.{parametersOf, itemsOf, soughtItem}
@@ -20,18 +17,16 @@ use Rattle.sheet.specs.declared.entries.Item.{Item}
 use Rattle.sheet.specs.declared.entries.SoughtItem.{SoughtItem}
 use Rattle.law.proofs.Layouts.{asParameter, asRegion}
 
+-- the data of a span that a command reads or writes, from a place of the PDU on, and what is stored of it
+abbrev pub dataPiece : Bool → ℕ → List Cell → List ℕ → List ℕ → ℕ → ℕ → Piece
+dataPiece false from cs m c a n = piece from (held cs m a n)
+dataPiece true from cs m c a n = piece from (take n (drop from c))
+
+abbrev pub written : Bool → ℕ → List ℕ → ℕ → ℕ → List Piece
+written false from c a n = []
+written true from c a n = piece a (take n (drop from c)) ∷ []
+
 -- what the sheet's octets and the memory say
-abbrev pub echo : List ℕ → Carrier → Piece
-echo c Parameter = again c 4 6
-echo c Memory = again c 5 11
-
-abbrev pub dataPiece : Bool → Carrier → List Cell → List ℕ → List ℕ → ℕ → ℕ → Piece
-dataPiece false by cs m c a n = piece (dataFrom by) (held cs m a n)
-dataPiece true by cs m c a n = piece (dataFrom by) (take n (drop (dataFrom by) c))
-
-abbrev pub written : Bool → Carrier → List ℕ → ℕ → ℕ → List Piece
-written false by c a n = []
-written true by c a n = piece a (take n (drop (dataFrom by) c)) ∷ []
 
 pub record ItemSame (is : List Item) (ids : List Ident) (sheet : List ℕ) (n : ℕ) : Type 0 where
   pub at : ℕ

@@ -9,9 +9,15 @@ use Rattle.law.specs.Sheet.{Sheet}
 use Rattle.law.specs.State.{link, mnKnown, lastMn, rsn, commandLatch, communicationLatch}
 use Rattle.law.specs.Table.{Check, check, Row, table}
 
--- "Command: octet 0 code, octet 1 WDT (low half MN, high half SN), octets 2 and 3 control, ignored", but for request 1
+-- "Command: octet 0 code, octet 1 WDT (low half MN, high half SN), octets 2 and 3 control, ignored"; request 1: bits 6 and 7 of octet 2 are the identity
+abbrev pub code : List ℕ → ℕ
+code c = octet c 0
+
 abbrev pub mn : List ℕ → ℕ
 mn c = octet c 1 % 16
+
+abbrev pub identity : List ℕ → ℕ
+identity c = octet c 2 / 64 % 4
 
 -- what becomes of a command: its alarm, 0 if accepted; what changes in the state record; the body; what is stored
 pub record Fate : Type 0 where
@@ -50,7 +56,7 @@ unfoldable pub fateOf : Sheet → List ℕ → List ℕ → List ℕ → Fate
 fateOf h s m c =
     when (missed s c)
     lost
-    (judged s (octet c 0) (table h s m c))
+    (judged s (code c) (table h s m c))
 
 -- "An exchange that begins and ends in link 3 stores MN as known and adds 1 to RSN modulo 16, refused or not. .. On entry to link 3 MN is not known and
 -- RSN is 0; on leaving it those fields and dual become 0." `sent` is the command's MN
@@ -71,10 +77,10 @@ headFor c alarm t =
     let rwdt = when (eqb (link t) 3) (16 * rsn t + mn c) 0 in
     -- "Status bit 0 is set if a latch is nonzero after the exchange; bit 2 is always set"; request 1: "Bits 6 and 7 of command octet 2 shall come back in
     -- those bits of reply octet 2, in every built reply."
-    let low = 4 + when (eqb (commandLatch t) 0 && eqb (communicationLatch t) 0) 0 1 + 64 * (octet c 2 / 64 % 4) in
+    let low = 4 + when (eqb (commandLatch t) 0 && eqb (communicationLatch t) 0) 0 1 + 64 * identity c in
     -- "bits 8 to 11 are this command's alarm, 0 if accepted; bits 12 to 15 the communication latch after the exchange; the rest 0"
     let high = alarm + 16 * communicationLatch t in
-    octet c 0 ∷ rwdt ∷ low ∷ high ∷ []
+    code c ∷ rwdt ∷ low ∷ high ∷ []
 
 -- "Unnamed reply octets are zero"
 unfoldable pub replyFor : Sheet → List ℕ → ℕ → List ℕ → List Piece → List ℕ

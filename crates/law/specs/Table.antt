@@ -57,14 +57,17 @@ comMod x = oneOf x (0 ∷ 2 ∷ 6 ∷ [])
 
 -- the rows for a sheet h, a state record s, a memory m and a command c
 module _ (h : Sheet) (s m c : List ℕ) where
+  abbrev pub number : ℕ
+  number = numberAt c 4 2
+
   abbrev pub parameter : Parameter
-  parameter = parameterOf (h .parameters) (numberAt c 4 2)
+  parameter = parameterOf (h .parameters) number
 
   -- 01 and 02: "4-5 number in sheet; 6 size equal to its size and at most L - 8; span mapped", then "Rights over the whole span: alarm 10". Of a
   -- well-formed sheet every parameter's span is mapped, so the fourth check holds there
   abbrev pub parameterChecks : (ℕ → Bool) → List Check
   parameterChecks right =
-      check (oneOf (numberAt c 4 2) (map (λ (p : Parameter). p .number) (h .parameters))) 9 4
+      check (oneOf number (map (λ (p : Parameter). p .number) (h .parameters))) 9 4
       ∷ check (eqb (octet c 6) (parameter .size)) 9 6
       ∷ check (leb (octet c 6) (h .l - 8)) 9 6
       ∷ check (hasAll mapped (cells (h .regions)) (parameter .address) (parameter .size)) 9 4
@@ -74,9 +77,16 @@ module _ (h : Sheet) (s m c : List ℕ) where
   abbrev pub item : Item
   item = itemOf (h .items) (octet c 4)
 
+  -- "6-7 count", or an ID item's size; "8-11 address"
+  abbrev pub count : ℕ
+  count = numberAt c 6 2
+
+  abbrev pub address : ℕ
+  address = numberAt c 8 4
+
   -- "n = count times element"
   abbrev pub n : ℕ
-  n = numberAt c 6 2 * element (octet c 5)
+  n = count * element (octet c 5)
 
   -- 1D and 1E: octet 5; "6-7 count; n .. 1 to L - 12; 8-11 address, all n octets in regions", then rights. At L 8, L - 12 counts as 0: "alarm 9 at the
   -- count at the latest"
@@ -85,8 +95,8 @@ module _ (h : Sheet) (s m c : List ℕ) where
       check (leb 1 (element (octet c 5))) 9 5
       ∷ check (leb 1 n) 9 6
       ∷ check (leb n (h .l - 12)) 9 6
-      ∷ check (hasAll mapped (cells (h .regions)) (numberAt c 8 4) n) 9 8
-      ∷ check (hasAll right (cells (h .regions)) (numberAt c 8 4) n) 10 0
+      ∷ check (hasAll mapped (cells (h .regions)) address n) 9 8
+      ∷ check (hasAll right (cells (h .regions)) address n) 10 0
       ∷ []
 
   -- "Disconnected allows NOP, CONNECT, DISCONNECT. CONNECT is allowed nowhere else. SYNC_SET needs link 2. All others are allowed in links 2 and 3."
@@ -104,11 +114,11 @@ module _ (h : Sheet) (s m c : List ℕ) where
       -- ID_RD: "4 code in sheet; 5 offset; 6-7 size at least 1, offset + size within the item, size at most L - 8"; "4 to 7 again, data from 8"
       ∷ row 0x03 (2 ∷ 3 ∷ [])
       (check (oneOf (octet c 4) (map (λ (i : Item). i .code) (h .items))) 9 4
-      ∷ check (leb 1 (numberAt c 6 2)) 9 6
-      ∷ check (leb (octet c 5 + numberAt c 6 2) (item .length)) 9 6
-      ∷ check (leb (numberAt c 6 2) (h .l - 8)) 9 6
+      ∷ check (leb 1 count) 9 6
+      ∷ check (leb (octet c 5 + count) (item .length)) 9 6
+      ∷ check (leb count (h .l - 8)) 9 6
       ∷ [])
-      [] (again c 4 7 ∷ piece 8 (take (numberAt c 6 2) (drop (octet c 5) (item .octets))) ∷ []) []
+      [] (again c 4 7 ∷ piece 8 (take count (drop (octet c 5) (item .octets))) ∷ []) []
       -- ALM_RD: "L at least 16; 4-5 zero"; "old command latch at 8, old communication latch at 9"
       ∷ row 0x05 (2 ∷ 3 ∷ []) (check (leb 16 (h .l)) 9 0 ∷ check (eqb (numberAt c 4 2) 0) 9 4 ∷ [])
       [] (piece 8 (commandLatch s ∷ communicationLatch s ∷ []) ∷ []) []
@@ -129,7 +139,7 @@ module _ (h : Sheet) (s m c : List ℕ) where
       ∷ row 0x0F (1 ∷ 2 ∷ 3 ∷ []) [] (piece 1 (1 ∷ []) ∷ piece 4 (0 ∷ []) ∷ []) [] []
       -- MEM_RD, MEM_WR: "5 to 11 again, the n octets from 12"
       ∷ row 0x1D (2 ∷ 3 ∷ []) (memoryChecks readable)
-      [] (again c 5 11 ∷ piece 12 (held (cells (h .regions)) m (numberAt c 8 4) n) ∷ []) []
+      [] (again c 5 11 ∷ piece 12 (held (cells (h .regions)) m address n) ∷ []) []
       ∷ row 0x1E (2 ∷ 3 ∷ []) (memoryChecks (writable (link s)))
-      [] (again c 5 11 ∷ piece 12 (take n (drop 12 c)) ∷ []) (piece (numberAt c 8 4) (take n (drop 12 c)) ∷ [])
+      [] (again c 5 11 ∷ piece 12 (take n (drop 12 c)) ∷ []) (piece address (take n (drop 12 c)) ∷ [])
       ∷ []

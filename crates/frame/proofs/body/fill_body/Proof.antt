@@ -11,6 +11,7 @@ use Rattle.frame.proofs.body.fill_body.Statement.{statement}
 use Rattle.frame.proofs.body.fill_body.Tie as tie
 
 carry-requires : tie.Need-carry-requires
+unfolding Fitting
 carry-requires c κs =
     let a = c .before .before .before .before .before .before .before .before .args in
     let e = c .before .before .before .before .before .before .before .before .pre .0 in
@@ -18,6 +19,7 @@ carry-requires c κs =
     (f .1, omega (arith, f .0), f .0)
 
 carry-requires-2 : tie.Need-carry-requires-2
+unfolding Fitting
 carry-requires-2 c κs =
     let a = c .before .before .before .before .before .before .before .before .before .args in
     let e = c .before .before .before .before .before .before .before .before .before .pre .0 in
@@ -25,6 +27,7 @@ carry-requires-2 c κs =
     (omega (arith, f .0, c .before .data-from .ensures), omega (arith, f .0), f .0)
 
 identify-requires : tie.Need-identify-requires
+unfolding Fitting
 identify-requires c κs =
     let a = c .before .before .before .before .before .before .before .before .args in
     let e = c .before .before .before .before .before .before .before .before .pre .0 in
@@ -32,6 +35,7 @@ identify-requires c κs =
     (f .1, omega (arith, f .0), f .0)
 
 tell-alarms-requires : tie.Need-tell-alarms-requires
+unfolding Fitting
 tell-alarms-requires c κs =
     let a = c .before .before .before .before .before .before .before .before .args in
     let e = c .before .before .before .before .before .before .before .before .pre .0 in
@@ -39,6 +43,7 @@ tell-alarms-requires c κs =
     f
 
 echo-four-requires : tie.Need-echo-four-requires
+unfolding Fitting
 echo-four-requires c κs =
     let a = c .before .before .before .before .before .before .before .args in
     let e = c .before .before .before .before .before .before .before .pre .0 in

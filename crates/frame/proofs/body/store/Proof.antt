@@ -11,6 +11,7 @@ use Rattle.frame.proofs.body.store.Statement.{statement}
 use Rattle.frame.proofs.body.store.Tie as tie
 
 enter-requires : tie.Need-enter-requires
+unfolding Storing
 enter-requires c κs =
     let a = c .before .before .before .before .before .before .before .args in
     let f = subst (λ (x : Effect). Storing x (length (a .command .now)) (length (a .memory .now))) (c .before .before .before .effect .given .1) (c .before .before .before .before .before .before .before .pre) in
