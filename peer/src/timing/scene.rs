@@ -103,6 +103,28 @@ pub fn usual_exchanges(named: &NamedPlan, link: u8) -> Vec<Scene> {
     scenes
 }
 
+/// A parameter read and written where the last region gives no right: refused
+/// for the right, at the span's first octet that lies there.
+fn refused_exchanges(named: &NamedPlan, link: u8) -> Vec<Scene> {
+    let mut plan = named.plan.clone();
+    if let Some(region) = plan.regions.last_mut() {
+        region.rights = 0;
+    }
+    let shut = NamedPlan {
+        name: named.name,
+        plan,
+    };
+    let mut scenes = Vec::new();
+    if let Some(parameter) = shut.plan.parameters.last() {
+        for (code, name) in [(0x01, "PRM_RD"), (0x02, "PRM_WR")] {
+            let command = build::parameter(&shut.plan, code, parameter.number, parameter.size);
+            let what = format!("{name} of {}, refused", parameter.size);
+            scenes.push(exchanging(&shut, link, &what, command));
+        }
+    }
+    scenes
+}
+
 /// The rows of the table: reading each sheet, and exchanges on the typical and
 /// the largest in both links.
 pub fn table_scenes() -> Vec<Scene> {
@@ -111,6 +133,7 @@ pub fn table_scenes() -> Vec<Scene> {
     for named in [&plans[1], &plans[3]] {
         for link in [2, 3] {
             scenes.extend(usual_exchanges(named, link));
+            scenes.extend(refused_exchanges(named, link));
         }
     }
     scenes
