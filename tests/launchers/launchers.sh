@@ -87,7 +87,7 @@ $REPLAYER_USAGE" "$replayer" sheet.bin state.bin memory.bin trace.bin five.bin
     # shellcheck disable=SC2016 # the inner shell's words
     expect "replayer with nothing to replay" 0 "nothing to replay: the trace has no record" "" \
         sh -c '"$@" >told; ended=$?; tail -n 1 told; exit $ended' sh "$replayer" sheet.bin state.bin memory.bin empty.bin
-    expect "replayer with a wrong form" 2 "refused: 31, unknown kind, at octet 33 of the trace" "" \
+    expect "replayer with a wrong form" 2 "" "refused: 31, unknown kind, at octet 33 of the trace" \
         "$replayer" sheet.bin state.bin memory.bin form.bin
     test_replayer_files
     test_replayer_explained
@@ -99,24 +99,25 @@ replayer: no trace: no such file" "$replayer" sheet.bin none.bin memory.bin "no 
     expect "replayer with a directory" 2 "" "replayer: folder: is a directory" "$replayer" folder state.bin memory.bin trace.bin
     expect "replayer with a pipe" 2 "" "replayer: pipe: is a pipe, can't be read twice" \
         "$replayer" sheet.bin state.bin memory.bin pipe
-    expect "replayer with an empty state" 2 "empty.bin: empty
-refused: 1, state record of wrong length or not valid" "" "$replayer" sheet.bin empty.bin memory.bin trace.bin
+    expect "replayer with an empty state" 2 "" "empty.bin: empty
+refused: 1, state record of wrong length or not valid" "$replayer" sheet.bin empty.bin memory.bin trace.bin
 }
 
 test_replayer_explained() {
     expect "replayer where a record differs" 1 "$DIFFERENCE" "" "$replayer" sheet.bin state.bin memory.bin changed.bin
     refusal="refused: 11, sheet cut short or over 2048 octets, at octet 32 of the sheet"
-    expect "replayer with a refused sheet" 2 "$refusal" "" "$replayer" faulty.bin state.bin memory.bin trace.bin
+    expect "replayer with a refused sheet" 2 "" "$refusal" "$replayer" faulty.bin state.bin memory.bin trace.bin
     stand_in 1
     expect "replayer where a record differs, explained" 1 "explain trace" "of sheet.bin state.bin memory.bin changed.bin" \
         "$replayer" sheet.bin state.bin memory.bin changed.bin
-    expect "replayer where t24-explain disagrees" 2 "$refusal
+    expect "replayer where t24-explain disagrees" 2 "" "$refusal
 explain sheet
-of faulty.bin" "replayer: t24-explain ended with 1, expected 2" "$replayer" faulty.bin state.bin memory.bin trace.bin
+of faulty.bin
+replayer: t24-explain ended with 1, expected 2" "$replayer" faulty.bin state.bin memory.bin trace.bin
     stand_in 2
-    expect "replayer with a refused sheet, explained" 2 "$refusal
+    expect "replayer with a refused sheet, explained" 2 "" "$refusal
 explain sheet
-of faulty.bin" "" "$replayer" faulty.bin state.bin memory.bin trace.bin
+of faulty.bin" "$replayer" faulty.bin state.bin memory.bin trace.bin
     expect "replayer where t24-explain finds no difference" 1 "$DIFFERENCE" "of sheet.bin state.bin memory.bin changed.bin
 replayer: t24-explain ended with 2, expected 1" "$replayer" sheet.bin state.bin memory.bin changed.bin
     stand_in 0
