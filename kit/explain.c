@@ -56,40 +56,24 @@ static int explain_sheet(const char *path)
     return status;
 }
 
-/* The slave's state or memory does not go with the sheet. */
-static int misfit(const struct replay *run, uint32_t number)
+/* The file that a refusal of this number is about. */
+static const char *refused_path(const struct replay *run, uint32_t number)
 {
-    const uint64_t lengths = t24_lengths(run->sheet.octets, run->sheet.len);
-
+    if (number == T24_BAD_STATE || number == T24_IS_DISABLED)
+        return run->state.path;
     if (number == T24_BAD_MEMORY)
-        fprintf(stderr, "t24-explain: %s: %s: %lu, not %lu\n", run->memory.path,
-                t24_words(number), (unsigned long)run->memory.len,
-                (unsigned long)t24_memory(lengths));
-    else if (number == T24_BAD_STATE)
-        fprintf(stderr, "t24-explain: %s: no valid state record: %s\n",
-                run->state.path,
-                t24_state_fault_words(run->state.octets, run->state.len,
-                                      t24_l(lengths)));
-    else
-        complain(run->state.path, "the slave is Disabled: no exchange");
-    return REFUSED;
+        return run->memory.path;
+    return (number < T24_TRACE_KIND ? run->sheet : run->trace).path;
 }
 
-/* A refusal, by the file that it is about. */
 static int refused(const struct replay *run, uint64_t answer)
 {
-    const uint32_t number = t24_number(answer);
     char words[256];
 
-    if (number < T24_SHEET_CUT)
-        return misfit(run, number);
-    if (number < T24_TRACE_KIND)
-        t24_sheet_words(run->sheet.octets, run->sheet.len, answer, words,
-                        sizeof words);
-    else
-        t24_trace_words(run->trace.octets, run->trace.len, run->l, answer,
-                        words, sizeof words);
-    complain((number < T24_TRACE_KIND ? run->sheet : run->trace).path, words);
+    t24_refusal_words(run->sheet.octets, run->sheet.len, run->state.octets,
+                      run->state.len, run->memory.len, run->trace.octets,
+                      run->trace.len, answer, words, sizeof words);
+    complain(refused_path(run, t24_number(answer)), words);
     return REFUSED;
 }
 

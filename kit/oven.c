@@ -30,7 +30,9 @@ static int done(const struct host *host, const char *what, uint64_t answer)
 
     if (t24_number(answer) == T24_DONE)
         return 1;
-    t24_sheet_words(host->sheet, host->sheet_len, answer, words, sizeof words);
+    t24_refusal_words(host->sheet, host->sheet_len, host->state,
+                      sizeof host->state, host->memory_len, NULL, 0, answer,
+                      words, sizeof words);
     fprintf(stderr, "%s refused: %s\n", what, words);
     return 0;
 }

@@ -1,6 +1,7 @@
 /*
- * type24_words.h - what a fitter wants to read, in words: the fault of a sheet
- * or a trace, a command, a status, a state record, an octet of a reply.
+ * type24_words.h - what a fitter wants to read, in words: why a call refused,
+ * the fault of a sheet or a trace, a command, a status, a state record, an octet
+ * of a reply.
  *
  * A host includes this header where it wants them; type24.h comes with it, and
  * nothing of the C library is needed.  Functions with text and text_len write
@@ -14,6 +15,7 @@
  *   t24_octet_words        an octet of a reply         type24_pdu_words.h
  *   t24_status_words       a reply's status            here
  *   t24_trace_words        an answer of t24_replay     here
+ *   t24_refusal_words      an answer of any call       here
  */
 #ifndef TYPE24_WORDS_H
 #define TYPE24_WORDS_H
@@ -129,6 +131,56 @@ static inline size_t t24_trace_words(const uint8_t *trace, size_t trace_len,
         t24_put(&made, t24_words(number));
         t24_put(&made, "; but not in these octets");
     }
+    return t24_text_end(&made);
+}
+
+/* 1, 2 and 5: what it is about the state record, or the memory's length. */
+static inline void t24_put_misfit(struct t24_text *text, uint32_t number,
+                                  const char *state_fault, size_t memory_len,
+                                  size_t wanted)
+{
+    if (number == T24_BAD_STATE) {
+        t24_put(text, ": ");
+        t24_put(text, state_fault);
+    } else if (number == T24_BAD_MEMORY) {
+        t24_put(text, ": ");
+        t24_put_decimal(text, memory_len);
+        t24_put(text, ", not ");
+        t24_put_decimal(text, wanted);
+    } else if (number == T24_IS_DISABLED) {
+        t24_put(text, ": octet 1 of the state record, the link, is 0");
+    }
+}
+
+/*
+ * An answer of any call in words, by what the call was lent: for 1 "1: state
+ * record of wrong length or not valid: octet 2, L, is not the sheet's", for 2
+ * "2: memory length is not the sum of the regions: 7, not 8", for 11 to 17 as
+ * t24_sheet_words, for 31 to 35 as t24_trace_words, for others the number and
+ * t24_words().  What the call was not lent has length 0, and may be NULL.
+ */
+static inline size_t t24_refusal_words(const uint8_t *sheet, size_t sheet_len,
+                                       const uint8_t *state, size_t state_len,
+                                       size_t memory_len, const uint8_t *trace,
+                                       size_t trace_len, uint64_t answer,
+                                       char *text, size_t text_len)
+{
+    const uint64_t lengths = t24_lengths(sheet, sheet_len);
+    const uint32_t number = t24_number(answer);
+    struct t24_text made = t24_text_in(text, text_len);
+
+    if (number == T24_DONE
+        || (number >= T24_SHEET_CUT && number <= T24_SHEET_SPAN))
+        return t24_sheet_words(sheet, sheet_len, answer, text, text_len);
+    if (number >= T24_TRACE_KIND)
+        return t24_trace_words(trace, trace_len, t24_l(lengths), answer, text,
+                               text_len);
+    t24_put_decimal(&made, number);
+    t24_put(&made, ": ");
+    t24_put(&made, t24_words(number));
+    t24_put_misfit(&made, number,
+                   t24_state_fault_words(state, state_len, t24_l(lengths)),
+                   memory_len, t24_memory(lengths));
     return t24_text_end(&made);
 }
 

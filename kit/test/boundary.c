@@ -57,6 +57,7 @@ static const struct group groups[] = {
     { "words: each octet of each reply", words_octets },
     { "words: commands", words_commands },
     { "words: traces", words_traces },
+    { "words: refusals", words_refusals },
     { "each number met at each call that has it", all_numbers_met }
 };
 

@@ -156,11 +156,11 @@ refused_trace() {
 explain_refusals() {
     refused_trace "rights.bin: 14 at octet 4: region 1, rights 09: only bits 0 to 2 may be set" \
         rights.bin short.bin empty.bin bad-kind.bin
-    refused_trace "short.bin: no valid state record: it has not 10 octets" \
+    refused_trace "short.bin: 1: state record of wrong length or not valid: it has not 10 octets" \
         sheet.bin short.bin memory.bin agree.bin
-    refused_trace "disabled.bin: the slave is Disabled: no exchange" \
+    refused_trace "disabled.bin: 5: exchange or replay while Disabled: octet 1 of the state record, the link, is 0" \
         sheet.bin disabled.bin memory.bin empty.bin
-    refused_trace "empty.bin: memory length is not the sum of the regions: 0, not 8" \
+    refused_trace "empty.bin: 2: memory length is not the sum of the regions: 0, not 8" \
         sheet.bin state.bin empty.bin agree.bin
     refused_trace "bad-kind.bin: 31 at octet 33: record 1: kind 77 is unknown: a record begins with 21 to 25" \
         sheet.bin state.bin memory.bin bad-kind.bin

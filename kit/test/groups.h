@@ -18,6 +18,7 @@ void words_state_faults(void);
 void words_octets(void);
 void words_commands(void);
 void words_traces(void);
+void words_refusals(void);
 void sheet_faults(void);
 void sheet_limits(void);
 void refusal_order(void);

@@ -131,6 +131,8 @@ test_that_words_fail() {
         's/(reply\[T24_REPLY_AT_STATUS\] >> 6) & 0x03u/(reply[T24_REPLY_AT_STATUS] >> 6) \& 0x01u/'
     wrong_words "an identity told in a command cut before it" type24_pdu_words.h \
         's/t24_field(&pdu, T24_COMMAND_AT_CONTROL, 1)/pdu.at[T24_COMMAND_AT_CONTROL]/'
+    wrong_words "a refused memory without its length" type24_words.h \
+        's/t24_put_decimal(text, memory_len);/t24_put_decimal(text, wanted);/'
 }
 
 test_stack() {

@@ -1,22 +1,10 @@
 /* Commands, replies, states and traces in words. */
 #include "groups.h"
 #include "place.h"
+#include "said.h"
 #include "sheets.h"
 
-#include <stdio.h>
-#include <string.h>
-
 #include "type24_words.h"
-
-static char text[256];
-
-static void same(size_t told, const char *words)
-{
-    if (strcmp(text, words) != 0)
-        fprintf(stderr, "  said:   %s\n  wanted: %s\n", text, words);
-    check(strcmp(text, words) == 0, "words");
-    check(told == strlen(words), "length of the words");
-}
 
 static void status(unsigned low, unsigned high, const char *words)
 {

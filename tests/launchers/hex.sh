@@ -87,7 +87,6 @@ test_hex_from() {
     expect "t24-hex --trace" 0 "22 1D000000001104000010000000000000 1D00040000110400001000000A0B0C0D
 26 1D000000001105000010000000000000 1D000509000000000000000000000000 # not the kind of L 16..." "" \
         "$hex" from form.bin --trace 16
-    head -c 40 "$work/room/trace.bin" >"$work/room/short.bin"
     expect "t24-hex --trace, cut" 0 "22 1D000000001104000010000000000000 1D00040000110400001000000A0B0C0D
 22 1D0000000011 # cut, 7 of 33 octets" "" "$hex" from short.bin --trace 16
 }

@@ -87,7 +87,7 @@ $REPLAYER_USAGE" "$replayer" sheet.bin state.bin memory.bin trace.bin five.bin
     # shellcheck disable=SC2016 # the inner shell's words
     expect "replayer with nothing to replay" 0 "nothing to replay: the trace has no record" "" \
         sh -c '"$@" >told; ended=$?; tail -n 1 told; exit $ended' sh "$replayer" sheet.bin state.bin memory.bin empty.bin
-    expect "replayer with a wrong form" 2 "" "refused: 31, unknown kind, at octet 33 of the trace" \
+    expect "replayer with a wrong form" 2 "" "refused: 31, at octet 33 of the trace" \
         "$replayer" sheet.bin state.bin memory.bin form.bin
     test_replayer_files
     test_replayer_explained
@@ -100,30 +100,48 @@ replayer: no trace: no such file" "$replayer" sheet.bin none.bin memory.bin "no 
     expect "replayer with a pipe" 2 "" "replayer: pipe: is a pipe, can't be read twice" \
         "$replayer" sheet.bin state.bin memory.bin pipe
     expect "replayer with an empty state" 2 "" "empty.bin: empty
-refused: 1, state record of wrong length or not valid" "$replayer" sheet.bin empty.bin memory.bin trace.bin
+refused: 1" "$replayer" sheet.bin empty.bin memory.bin trace.bin
 }
 
 test_replayer_explained() {
     expect "replayer where a record differs" 1 "$DIFFERENCE" "" "$replayer" sheet.bin state.bin memory.bin changed.bin
-    refusal="refused: 11, sheet cut short or over 2048 octets, at octet 32 of the sheet"
+    refusal="refused: 11, at octet 32 of the sheet"
     expect "replayer with a refused sheet" 2 "" "$refusal" "$replayer" faulty.bin state.bin memory.bin trace.bin
     stand_in 1
     expect "replayer where a record differs, explained" 1 "explain trace" "of sheet.bin state.bin memory.bin changed.bin" \
         "$replayer" sheet.bin state.bin memory.bin changed.bin
     expect "replayer where t24-explain disagrees" 2 "" "$refusal
-explain sheet
-of faulty.bin
+explain trace
+of faulty.bin state.bin memory.bin trace.bin
 replayer: t24-explain ended with 1, expected 2" "$replayer" faulty.bin state.bin memory.bin trace.bin
     stand_in 2
-    expect "replayer with a refused sheet, explained" 2 "" "$refusal
-explain sheet
-of faulty.bin" "$replayer" faulty.bin state.bin memory.bin trace.bin
+    test_replayer_refused
     expect "replayer where t24-explain finds no difference" 1 "$DIFFERENCE" "of sheet.bin state.bin memory.bin changed.bin
 replayer: t24-explain ended with 2, expected 1" "$replayer" sheet.bin state.bin memory.bin changed.bin
     stand_in 0
     expect "replayer where all agree, explained" 0 "explain trace" "of sheet.bin state.bin memory.bin trace.bin" \
         "$replayer" sheet.bin state.bin memory.bin trace.bin
     rm "$work/dist/bin/t24-explain"
+}
+
+# Whatever the number, the words of t24-explain follow; but not where there is no number.
+test_replayer_refused() {
+    refused_by "a sheet" "$refusal" faulty.bin state.bin memory.bin trace.bin
+    refused_by "a state record" "refused: 1" sheet.bin memory.bin memory.bin trace.bin
+    refused_by "a memory" "refused: 2" sheet.bin state.bin state.bin trace.bin
+    refused_by "a slave that is Disabled" "refused: 5" sheet.bin disabled.bin memory.bin trace.bin
+    refused_by "a kind" "refused: 31, at octet 33 of the trace" sheet.bin state.bin memory.bin form.bin
+    refused_by "a kind of another length" "refused: 32, at octet 0 of the trace" sheet.bin state.bin memory.bin other.bin
+    refused_by "a cut record" "refused: 33, at octet 33 of the trace" sheet.bin state.bin memory.bin short.bin
+}
+
+# refused_by WHAT LINE SHEET STATE MEMORY TRACE
+refused_by() {
+    what=$1 line=$2
+    shift 2
+    expect "replayer that refuses $what, explained" 2 "" "$line
+explain trace
+of $*" "$replayer" "$@"
 }
 
 # The launcher that finds t24-explain's program for the processor at hand.

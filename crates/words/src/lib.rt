@@ -1,4 +1,4 @@
-// Refusals and commands in words, on the standard output, for the programs.
+// Refusals by number and place, and commands in words, on the standard output, for the programs. What a number means the kit's words say.
 use libc::STDOUT_FILENO;
 use machine::words::Command;
 
@@ -8,26 +8,6 @@ pub fn print(words: &[u8]) {
 
 pub fn print_number(n: u64) {
     io::print_decimal(STDOUT_FILENO, n);
-}
-
-// A refusal's meaning: document 01's numbers, and request 6's for a trace.
-fn print_meaning(number: u8) {
-    match number {
-        1 => print(b"state record of wrong length or not valid"),
-        2 => print(b"memory length not the sum of the regions"),
-        5 => print(b"the slave is Disabled"),
-        11 => print(b"sheet cut short or over 2048 octets"),
-        12 => print(b"unknown kind of a sheet record"),
-        13 => print(b"kind of a sheet record out of place"),
-        14 => print(b"a field of the sheet out of range"),
-        15 => print(b"sheet records out of order or overlapping"),
-        16 => print(b"too many sheet records or too much memory"),
-        17 => print(b"a parameter's span not wholly in regions"),
-        31 => print(b"unknown kind"),
-        32 => print(b"a kind of another length than the sheet's"),
-        33 => print(b"record cut short"),
-        _ => print(b"not known"),
-    }
 }
 
 // A refusal's place, as far as its number has one.
@@ -48,8 +28,6 @@ fn print_place(number: u8, place: u64) {
 pub fn print_refusal(number: u8, place: u64) {
     print(b"refused: ");
     print_number(number as u64);
-    print(b", ");
-    print_meaning(number);
     print_place(number, place);
     print(b"\n");
 }
