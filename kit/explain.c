@@ -10,6 +10,7 @@
 #include <string.h>
 #include <unistd.h>
 
+#include "explain_call.h"
 #include "explain_file.h"
 #include "explain_show.h"
 #include "type24.h"
@@ -26,18 +27,6 @@ struct replay {
     int progress;        /* whether it is shown */
     unsigned long shown; /* the percent shown last; 101 before the first */
 };
-
-static const char usage_words[] =
-    "usage: t24-explain sheet SHEET\n"
-    "       t24-explain [--progress] trace SHEET STATE MEMORY TRACE\n"
-    "sheet  tells whether the device sheet is valid, and else its first fault.\n"
-    "trace  gives the slave each command of TRACE, from the state record STATE\n"
-    "       and the memory MEMORY on, and tells the first reply that is not the\n"
-    "       slave's, or that all agree.  How far it is shows on a terminal, and\n"
-    "       with --progress.\n"
-    "All files hold octets as they are; RULES.md says what they mean.\n"
-    "Exit status: 0 valid, or all agree; 1 a reply differs; 2 refused, or a file\n"
-    "cannot be read.\n";
 
 static int explain_sheet(const char *path)
 {
@@ -115,6 +104,15 @@ static void end_progress(struct replay *run)
         fprintf(stderr, "\n");
 }
 
+/* Refused with an alarm, or a lost cycle, which alone goes from link 3 to 2. */
+static int was_executed(const struct replay *run, uint8_t link_before,
+                        const uint8_t *reply)
+{
+    return t24_reply_alarm(reply) == T24_ALARM_NONE
+        && !(link_before == T24_LINK_SYNC
+             && run->state.octets[T24_AT_LINK] == T24_LINK_ASYNC);
+}
+
 /* State and memory stand as before the record, so the slave's reply to it is
  * got by giving it the command once more. */
 static int differs(struct replay *run, size_t record, size_t octet)
@@ -122,6 +120,7 @@ static int differs(struct replay *run, size_t record, size_t octet)
     const size_t at = record * run->size;
     const uint8_t *command = run->trace.octets + at + T24_TRACE_AT_COMMAND;
     const uint8_t *theirs = command + run->l;
+    const uint8_t link = run->state.octets[T24_AT_LINK];
     uint8_t ours[T24_L_MAX];
     char words[256];
 
@@ -139,7 +138,8 @@ static int differs(struct replay *run, size_t record, size_t octet)
     print_octets("trace: ", theirs, run->l);
     print_marks(ours, theirs, run->l);
     printf("octet %lu: %s\n", (unsigned long)octet,
-           t24_octet_words(command[T24_COMMAND_AT_CODE], octet));
+           t24_reply_octet_words(command[T24_COMMAND_AT_CODE], octet,
+                                 was_executed(run, link, ours)));
     print_status("ours:  ", ours);
     print_status("trace: ", theirs);
     return DIFFERS;
@@ -229,30 +229,32 @@ static int explain_trace(char **paths, int progress)
     return status;
 }
 
-static int usage(FILE *out, int status)
+/* By the first word; a wrong one is said. */
+static int explain(const struct call *call, char **words)
 {
-    fputs(usage_words, out);
-    return status;
+    if (call->help) {
+        printf("%s%s", usage_words, help_words);
+        return AGREES;
+    }
+    if (call->unknown != NULL)
+        misused("unknown option ", call->unknown);
+    else if (call->count == 0)
+        misused("sheet or trace?", "");
+    else if (strcmp(words[0], "sheet") == 0)
+        return has_files(call, words, 1) ? explain_sheet(words[1]) : REFUSED;
+    else if (strcmp(words[0], "trace") == 0)
+        return has_files(call, words, 4)
+            ? explain_trace(words + 1, call->progress) : REFUSED;
+    else
+        misused("unknown word ", words[0]);
+    return REFUSED;
 }
 
 int main(int argc, char **argv)
 {
-    int i, names = 0, progress = 0, status;
+    const struct call call = sort_words(argc, argv);
+    const int status = explain(&call, argv);
 
-    for (i = 1; i < argc; i++) {
-        if (strcmp(argv[i], "--help") == 0)
-            return usage(stdout, 0);
-        if (strcmp(argv[i], "--progress") == 0)
-            progress = 1;
-        else
-            argv[names++] = argv[i];
-    }
-    if (names == 2 && strcmp(argv[0], "sheet") == 0)
-        status = explain_sheet(argv[1]);
-    else if (names == 5 && strcmp(argv[0], "trace") == 0)
-        status = explain_trace(argv + 1, progress);
-    else
-        return usage(stderr, REFUSED);
     if (fflush(stdout) == 0)
         return status;
     complain("standard output", strerror(errno));

@@ -101,7 +101,8 @@ static inline const char *t24_body_octet_words(uint32_t code, size_t octet)
     }
 }
 
-/* The field that an octet of a reply with this code belongs to. */
+/* The field that an octet of a reply with this code belongs to, as far as the
+ * command was executed. */
 static inline const char *t24_octet_words(uint32_t code, size_t octet)
 {
     switch (octet) {
@@ -114,6 +115,16 @@ static inline const char *t24_octet_words(uint32_t code, size_t octet)
     }
     return octet < T24_L_MAX ? t24_body_octet_words(code, octet)
                              : "not an octet of a reply";
+}
+
+/* The same where one knows whether it was: refused with an alarm, or its cycle
+ * lost, it was not. */
+static inline const char *t24_reply_octet_words(uint32_t code, size_t octet,
+                                                int executed)
+{
+    if (!executed && octet > T24_REPLY_AT_STATUS + 1 && octet < T24_L_MAX)
+        return "the body of a refused or not executed command is zero";
+    return t24_octet_words(code, octet);
 }
 
 /* A command's octets, and how many there are. */

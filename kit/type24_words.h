@@ -13,6 +13,7 @@
  *   t24_state_fault_words  why T24_BAD_STATE           type24_state_words.h
  *   t24_command_words      a command                   type24_pdu_words.h
  *   t24_octet_words        an octet of a reply         type24_pdu_words.h
+ *   t24_reply_octet_words  executed or not             type24_pdu_words.h
  *   t24_status_words       a reply's status            here
  *   t24_trace_words        an answer of t24_replay     here
  *   t24_refusal_words      an answer of any call       here

@@ -22,6 +22,17 @@ refuse_usage() {
     exit 2
 }
 
+# no_options PLACE WORD...: the words behind the options are files; one that looks like an option came too late.
+no_options() {
+    place=$1
+    shift
+    for word in "$@"; do
+        case $word in
+        -?*) refuse_usage "options come before $place: $word" ;;
+        esac
+    done
+}
+
 need_work() { [ -n "$work" ] || work=$(mktemp -d) || refuse "no room for temporary files"; }
 
 # need_file FILE: one that can be opened, and read more than once; the fault is said by the file's name.

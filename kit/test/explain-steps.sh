@@ -13,6 +13,8 @@ make_slaves() {
     hex state.bin 11021000010000000000
     hex latched.bin 11021000010000000900
     hex disabled.bin 11001000000000000000
+    hex in-step.bin 11031000010103050000 # last MN 3
+    cp sheet.bin ./-sheet.bin
     hex short.bin 110210
     hex memory.bin 0A0BAABB0E0F1011
     : >empty.bin
@@ -26,6 +28,8 @@ make_traces() {
     hex nop.bin "22 00000000000000000000000000000000 00000400000000000000000000000000"
     hex first.bin "22 1D004000002101000210000000000000 1D0044000021010002100000AABB0000"
     hex again.bin "22 1D008000002101000210000000000000 1D0044000021010002100000AABB0000" # the first reply once more
+    hex refused.bin "22 1D000000002103000210000000000000 1D0005090000000000000000AABB0000" # 6 octets are too many
+    hex lost.bin "22 1D030000002101000210000000000000 1D0005C00000000000000000AABB0000"    # MN 3 again
     hex kind.bin 77
     hex other-l.bin 21
     cat read.bin write.bin >agree.bin
@@ -144,6 +148,32 @@ trace: accepted; identity 1
 END
 }
 
+# The body of a command that was refused, or not executed, is no data.
+explain_bodies() {
+    explained 1 stdout trace sheet.bin state.bin memory.bin refused.bin <<'END'
+record 0, at octet 0 of the trace, differs at octet 12 of its reply
+command: 1D MEM_RD address 00001002, 6 octets; MN 0, SN 0
+before:  link 2 AsyncConnected, command latch 0, communication latch 0
+ours:  1D000509000000000000000000000000
+trace: 1D0005090000000000000000AABB0000
+                               ^^^^
+octet 12: the body of a refused or not executed command is zero
+ours:  alarm 9, a field of the command is wrong; a latch is set
+trace: alarm 9, a field of the command is wrong; a latch is set
+END
+    explained 1 stdout trace sheet.bin in-step.bin memory.bin lost.bin <<'END'
+record 0, at octet 0 of the trace, differs at octet 12 of its reply
+command: 1D MEM_RD address 00001002, 2 octets; MN 3, SN 0
+before:  link 3 SyncConnected, last MN 3, RSN 5, command latch 0, communication latch 0
+ours:  1D0005C0000000000000000000000000
+trace: 1D0005C00000000000000000AABB0000
+                               ^^^^
+octet 12: the body of a refused or not executed command is zero
+ours:  alarm 0, none; communication latch 12, a cycle was lost: MN did not follow; a latch is set
+trace: alarm 0, none; communication latch 12, a cycle was lost: MN did not follow; a latch is set
+END
+}
+
 # refused_trace WORDS SHEET STATE MEMORY TRACE
 refused_trace() {
     words=$1
@@ -176,13 +206,32 @@ t24-explain: folder: Is a directory
 END
 }
 
+# misused WORDS ARGUMENT...: said with the usage, on standard error.
+misused() {
+    words=$1
+    shift
+    { echo "t24-explain: $words" && head -n 2 "$work/help"; } >"$work/usage"
+    explained 2 stderr "$@" <"$work/usage"
+    unsaid stdout
+}
+
 explain_usage() {
-    $EXPLAIN --help >"$work/usage" || fail "--help"
-    grep -q "^usage: t24-explain sheet SHEET$" "$work/usage" || fail "no usage"
-    for arguments in "" sheet trace "sheet a b" "trace a b c" "word a"; do
-        explained 2 stderr $arguments <"$work/usage"
-        unsaid stdout
-    done
+    $EXPLAIN --help >"$work/help" || fail "--help"
+    grep -qx "usage: t24-explain sheet SHEET" "$work/help" || fail "no usage"
+    explained 0 stdout -h <"$work/help"
+    unsaid stderr
+    explained 0 stdout trace a --help <"$work/help"
+    misused "sheet or trace?"
+    misused "sheet needs 1 file, not 0" sheet
+    misused "a word too many: b" sheet a b
+    misused "trace needs 4 files, not 3" trace a b c
+    misused "a word too many: e" trace a b c d e
+    misused "unknown word word" word a
+    misused "unknown option --sheet" --sheet a
+    misused "unknown option -x" trace sheet.bin state.bin memory.bin -x
+    explained 0 stdout sheet -- -sheet.bin <<'END'
+sheet: valid, L 16, 8 octets of memory, 2 regions, 1 parameter, 0 ID items
+END
 }
 
 # A pipe is read once, and a full device cannot take the words.
@@ -211,10 +260,11 @@ explain_all() {
     explain_sheets
     explain_agreement
     explain_differences
+    explain_bodies
     explain_refusals
     explain_usage
     explain_streams
-    echo "sheets, agreement, differences, refusals, usage, streams: ok"
+    echo "sheets, agreement, differences, bodies, refusals, usage, streams: ok"
 }
 
 test_explain() {

@@ -153,6 +153,7 @@ static const struct {
 
 void words_octets(void)
 {
+    const char *zero = "the body of a refused or not executed command is zero";
     const size_t count = sizeof fields / sizeof fields[0];
     size_t i, octet, next;
 
@@ -165,6 +166,11 @@ void words_octets(void)
             label("octet", (long)(256 * fields[i].code + octet));
             check(strcmp(t24_octet_words(fields[i].code, octet),
                          fields[i].words) == 0, "words of an octet");
+            check(strcmp(t24_reply_octet_words(fields[i].code, octet, 1),
+                         fields[i].words) == 0, "executed");
+            check(strcmp(t24_reply_octet_words(fields[i].code, octet, 0),
+                         octet < 4 || octet > 63 ? fields[i].words : zero) == 0,
+                  "not executed");
         }
     }
 }

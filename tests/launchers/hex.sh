@@ -1,12 +1,14 @@
 # Sourced by run: what t24-hex has to do. The kit is in $work/dist, and the commands run in $work/room.
 # shellcheck shell=sh disable=SC2154 # work is set by run
 
-HEX_USAGE="usage: t24-hex to FILE <LINES
+HEX_USAGE="usage: t24-hex to FILE [--octets N] <LINES
        t24-hex from FILE [--trace L | --state | --memory | --sheet]"
 
 test_hex() {
     hex=$work/dist/bin/t24-hex
     expect "t24-hex --help" 0 "$HEX_USAGE..." "" "$hex" --help
+    expect "t24-hex -h" 0 "$HEX_USAGE..." "" "$hex" -h
+    expect "t24-hex from --help" 0 "$HEX_USAGE..." "" "$hex" from --help
     test_hex_words
     test_hex_to
     test_hex_from
@@ -18,37 +20,55 @@ test_hex_words() {
 $HEX_USAGE" "$hex"
     expect "t24-hex with an unknown word" 2 "" "t24-hex: unknown word into
 $HEX_USAGE" "$hex" into x.bin
-    expect "t24-hex to without a file" 2 "" "t24-hex: to needs one file
+    expect "t24-hex to without a file" 2 "" "t24-hex: which file?
 $HEX_USAGE" "$hex" to
-    expect "t24-hex to two files" 2 "" "t24-hex: to needs one file
+    expect "t24-hex to two files" 2 "" "t24-hex: a word too many: b.bin
 $HEX_USAGE" "$hex" to a.bin b.bin
-    expect "t24-hex from nothing" 2 "" "t24-hex: from needs a file
+    expect "t24-hex to with an unknown option" 2 "" "t24-hex: unknown option --lines
+$HEX_USAGE" "$hex" to a.bin --lines
+    expect "t24-hex to with an option before the file" 2 "" "t24-hex: the file comes before --octets
+$HEX_USAGE" "$hex" to --octets 16 a.bin
+    expect "t24-hex --octets without a number" 2 "" "t24-hex: --octets needs a number
+$HEX_USAGE" "$hex" to a.bin --octets
+    expect "t24-hex --octets with no number" 2 "" "t24-hex: --octets needs a number, not 1x
+$HEX_USAGE" "$hex" to a.bin --octets 1x
+    expect "t24-hex --octets with a word too many" 2 "" "t24-hex: a word too many: b.bin
+$HEX_USAGE" "$hex" to a.bin --octets 16 b.bin
+    expect "t24-hex from nothing" 2 "" "t24-hex: which file?
 $HEX_USAGE" "$hex" from
+    expect "t24-hex from with an option before the file" 2 "" "t24-hex: the file comes before --trace
+$HEX_USAGE" "$hex" from --trace 16 trace.bin
+    expect "t24-hex from two files" 2 "" "t24-hex: a word too many: memory.bin
+$HEX_USAGE" "$hex" from state.bin memory.bin
     expect "t24-hex from with an unknown option" 2 "" "t24-hex: unknown option --replies
 $HEX_USAGE" "$hex" from state.bin --replies
-    expect "t24-hex from with too many words" 2 "" "t24-hex: too many arguments
+    expect "t24-hex from with too many words" 2 "" "t24-hex: a word too many: 16
 $HEX_USAGE" "$hex" from state.bin --state 16
     expect "t24-hex --trace without L" 2 "" "t24-hex: --trace needs L: 8, 16, 32, 48 or 64
 $HEX_USAGE" "$hex" from trace.bin --trace
-    expect "t24-hex --trace with a wrong L" 2 "" "t24-hex: --trace needs L: 8, 16, 32, 48 or 64
+    expect "t24-hex --trace with a wrong L" 2 "" "t24-hex: --trace needs L: 8, 16, 32, 48 or 64, not 17
 $HEX_USAGE" "$hex" from trace.bin --trace 17
 }
 
-# refused_lines NAME LINES MESSAGE: 'to' refuses them, and leaves the file as it was.
+# refused_lines NAME LINES MESSAGE [OPTION...]: 'to' refuses them, and leaves the file as it was.
 refused_lines() {
+    case_name=$1 message=$3
     # shellcheck disable=SC2059 # the lines are a format
     printf "$2" >"$work/room/lines"
+    shift 3
     input=$work/room/lines
     printf kept >"$work/room/old.bin"
-    expect "t24-hex to, $1" 2 "" "t24-hex: $3" "$hex" to old.bin
+    expect "t24-hex to, $case_name" 2 "" "t24-hex: $message" "$hex" to old.bin "$@"
     input=/dev/null
-    expect "t24-hex to, $1, leaves the file" 0 "kept." "" sh -c 'cat old.bin && echo .'
+    expect "t24-hex to, $case_name, leaves the file" 0 "kept." "" sh -c 'cat old.bin && echo .'
 }
 
 test_hex_to() {
     refused_lines "an odd digit" '00 01\n\n02 0 # no\n' "line 3: an odd digit in 0"
     refused_lines "a letter that is no hex" '# first\n00 0g\n' "line 2: g is no hex digit"
     refused_lines "0x before digits" '0x00\n' "line 1: x is no hex digit"
+    refused_lines "a line too short" '00 01\n\n# none\n02 # one\n' "line 4: 1 octet, not 2" --octets 2
+    refused_lines "a line too long" '00 01 02' "line 1: 3 octets, not 2" --octets 2
     expect "t24-hex to a directory" 2 "" "t24-hex: folder: is a directory" "$hex" to folder
     expect "t24-hex to a missing folder" 2 "" "t24-hex: none/x.bin: can't be written" "$hex" to none/x.bin
     printf '# comment\n\n 00 ff# behind\n\t7F\r\nAbCd' >"$work/room/lines"
@@ -56,6 +76,11 @@ test_hex_to() {
     expect "t24-hex to" 0 "" "" "$hex" to made.bin
     input=/dev/null
     expect "t24-hex to, the octets" 0 " 00 ff 7f ab cd" "" od -An -v -tx1 made.bin
+    printf '# comment\n\n 00 ff# behind\n7Fab\n' >"$work/room/lines"
+    input=$work/room/lines
+    expect "t24-hex to, lines of one length" 0 "" "" "$hex" to made.bin --octets 2
+    input=/dev/null
+    expect "t24-hex to, lines of one length, the octets" 0 " 00 ff 7f ab" "" od -An -v -tx1 made.bin
     expect "t24-hex to, from nothing" 0 "" "" "$hex" to made.bin
     expect "t24-hex to, from nothing, no octet" 0 "0" "" sh -c 'wc -c <made.bin'
 }

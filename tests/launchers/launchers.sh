@@ -18,8 +18,10 @@ test_bench() {
     expect "bench -h" 0 "$BENCH_USAGE..." "" "$bench" -h
     expect "bench with an unknown option" 2 "" "bench: unknown option --hexx
 $BENCH_USAGE" "$bench" --hexx
-    expect "bench with two files" 2 "" "bench: one sheet, not 2 arguments
+    expect "bench with two files" 2 "" "bench: one sheet, so other.bin is too many
 $BENCH_USAGE" "$bench" sheet.bin other.bin
+    expect "bench with an option behind the sheet" 2 "" "bench: options come before the sheet: --hex
+$BENCH_USAGE" "$bench" sheet.bin --hex
     test_bench_runs
     test_bench_files
     test_bench_sheet
@@ -67,9 +69,15 @@ test_bench_hex() {
     input=$work/room/hex
     printf '# NOP\n00 00 00 00 0000000000000000 00000000\n\n0e000000 30000100 00000000 00000000 # CONNECT' >"$input"
     expect "bench --hex" 0 "$REPLIES" "" "$bench" --hex sheet.bin
-    printf '00\n0\n' >"$input"
+    printf '%032d\n0\n' 0 >"$input"
     expect "bench --hex with an odd digit" 2 "" "t24-hex: line 2: an odd digit in 0" "$bench" --hex sheet.bin
+    printf '%032d\n# NOP\n%030d\n%034d\n' 0 0 0 >"$input"
+    expect "bench --hex with a short line" 2 "" "t24-hex: line 3: 15 octets, not 16" "$bench" --hex sheet.bin
+    printf '%064d\n' 0 >"$input"
+    expect "bench --hex with two commands on a line" 2 "" "t24-hex: line 1: 32 octets, not 16" "$bench" --hex sheet.bin
+    expect "bench --hex with a refused sheet" 2 "SHEET 11 32" "bench: faulty.bin: the sheet is refused" "$bench" --hex faulty.bin
     input=/dev/null
+    expect "bench --hex without a command" 0 "" "" "$bench" --hex sheet.bin
 }
 
 test_replayer() {
@@ -78,8 +86,10 @@ test_replayer() {
     expect "replayer -h" 0 "$REPLAYER_USAGE..." "" "$replayer" -h
     expect "replayer with an unknown option" 2 "" "replayer: unknown option --verbose
 $REPLAYER_USAGE" "$replayer" --verbose
-    expect "replayer with five files" 2 "" "replayer: at most four files, not 5 arguments
+    expect "replayer with five files" 2 "" "replayer: at most four files, so five.bin is too many
 $REPLAYER_USAGE" "$replayer" sheet.bin state.bin memory.bin trace.bin five.bin
+    expect "replayer with an option behind a file" 2 "" "replayer: options come before the files: --help
+$REPLAYER_USAGE" "$replayer" sheet.bin --help
     expect "replayer with its defaults" 0 "all agree: 15 records" "$TAKEN" "$replayer"
     expect "replayer with two names" 0 "all agree: 15 records" "$TAKEN" "$replayer" sheet.bin state.bin
     expect "replayer with four names" 0 "all agree: 15 records" "" "$replayer" sheet.bin state.bin memory.bin trace.bin
