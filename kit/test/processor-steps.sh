@@ -51,4 +51,9 @@ test_citations() {
     mkdir "$work/citing" "$work/citing/doc"
     echo 'See `kit/test-kit` and doc/NONE.md.' >"$work/citing/doc/PAGE.md"
     must_fail "a page that names what is not there" "kit/test-kit" "$kit/test/citations" "$work/citing"
+    (cd "$dist" && "$kit/test/links" $(find doc -name '*.md' | sort)) || fail "a link leads out of the kit"
+    echo 'See [there](NONE.md).' >"$work/citing/doc/LINK.md"
+    must_fail "a link that leads nowhere" "leads nowhere" "$kit/test/links" "$work/citing/doc/LINK.md"
+    echo 'See [there](PAGE.md#none).' >"$work/citing/doc/LINK.md"
+    must_fail "a link to no heading" "names no heading" "$kit/test/links" "$work/citing/doc/LINK.md"
 }
