@@ -1,0 +1,61 @@
+# Sourced by run: what t24-explain has to do when it is called by hand, and what replayer says with it. The kit is in $work/dist, and the commands run
+# in $work/room.
+# shellcheck shell=sh disable=SC2154 # work is set by run
+
+EXPLAIN_USAGE="usage: t24-explain sheet SHEET
+       t24-explain [--progress] trace SHEET STATE MEMORY TRACE"
+
+test_explain_calls() {
+    cp "$repository/kit/launchers/t24-explain" "$work/dist/bin/t24-explain"
+    explain=$work/dist/bin/t24-explain
+    expect "t24-explain --help" 0 "$EXPLAIN_USAGE..." "" "$explain" --help
+    expect "t24-explain -h" 0 "$EXPLAIN_USAGE..." "" "$explain" -h
+    expect "t24-explain alone" 2 "" "t24-explain: sheet or trace?
+$EXPLAIN_USAGE" "$explain"
+    expect "t24-explain with an unknown word" 2 "" "t24-explain: unknown word memory
+$EXPLAIN_USAGE" "$explain" memory memory.bin
+    expect "t24-explain with an unknown option" 2 "" "t24-explain: unknown option --sheet
+$EXPLAIN_USAGE" "$explain" --sheet sheet.bin
+    expect "t24-explain with two sheets" 2 "" "t24-explain: a word too many: faulty.bin
+$EXPLAIN_USAGE" "$explain" sheet sheet.bin faulty.bin
+    expect "t24-explain with a trace alone" 2 "" "t24-explain: trace needs 4 files, not 1
+$EXPLAIN_USAGE" "$explain" trace trace.bin
+    test_words
+    test_bodies
+    rm "$work/dist/bin/t24-explain"
+}
+
+# Each refusal with the words that the kit has for it.
+test_words() {
+    expect "words for a sheet" 2 "" "refused: 11, at octet 32 of the sheet
+t24-explain: faulty.bin: 11 at octet 32: no end record" "$replayer" faulty.bin state.bin memory.bin trace.bin
+    expect "words for a state record" 2 "" "refused: 1
+t24-explain: memory.bin: 1: state record of wrong length or not valid: it has not 10 octets" \
+        "$replayer" sheet.bin memory.bin memory.bin trace.bin
+    expect "words for a memory" 2 "" "refused: 2
+t24-explain: state.bin: 2: memory length is not the sum of the regions: 10, not 8" \
+        "$replayer" sheet.bin state.bin state.bin trace.bin
+    expect "words for a slave that is Disabled" 2 "" "refused: 5
+t24-explain: disabled.bin: 5: exchange or replay while Disabled: octet 1 of the state record, the link, is 0" \
+        "$replayer" sheet.bin disabled.bin memory.bin trace.bin
+    expect "words for a kind" 2 "" "refused: 31, at octet 33 of the trace
+t24-explain: form.bin: 31 at octet 33: record 1: kind 26 is unknown: a record begins with 21 to 25" \
+        "$replayer" sheet.bin state.bin memory.bin form.bin
+    expect "words for a kind of another length" 2 "" "refused: 32, at octet 0 of the trace
+t24-explain: other.bin: 32 at octet 0: record 0: kind 21 has L 8, the sheet 16" \
+        "$replayer" sheet.bin state.bin memory.bin other.bin
+    expect "words for a cut record" 2 "" "refused: 33, at octet 33 of the trace
+t24-explain: short.bin: 33 at octet 33: record 1: 26 of its 33 octets are missing" \
+        "$replayer" sheet.bin state.bin memory.bin short.bin
+}
+
+# A read of 5 octets is refused at L 16, and a reply that has data nevertheless differs there.
+test_bodies() {
+    echo 22 1D000000001105000010000000000000 1D0005090000000000000000AA000000 >"$work/room/lines"
+    input=$work/room/lines
+    expect "a trace with a body too many" 0 "" "" "$work/dist/bin/t24-hex" to body.bin
+    input=/dev/null
+    # shellcheck disable=SC2016 # the inner shell's words
+    expect "replayer on a body of a refused command" 1 "octet 12: the body of a refused or not executed command is zero" "" \
+        sh -c '"$@" >told; ended=$?; grep "^octet" told; exit $ended' sh "$replayer" sheet.bin state.bin memory.bin body.bin
+}
