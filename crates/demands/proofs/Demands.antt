@@ -1,7 +1,7 @@
 -- The owner's page, proved.
 use Rattle.law.proofs.ByTables.{by-tables, one-reading}
 use Rattle.law.proofs.Promises.{promises}
-use Rattle.demands.specs.Demands.{FirstDemand, SecondDemand, ThirdDemand, IdlePrograms, OnTheBench, Request1, Request6}
+use Rattle.demands.specs.Demands.{FirstDemand, SecondDemand, ThirdDemand, IdlePrograms, OnTheBench, Request1, Request6, Request8}
 use Rattle.demands.proofs.Agreed.{traces-have-replies, agrees-exactly}
 use Rattle.demands.proofs.Alone.{refuses-all-keeps-secrets, single-reply-keeps-secrets, stores-nothing-keeps-secrets, echoes-afterwards-keeps-secrets, invents-rsn-keeps-secrets, invents-rsn-agrees-where-reached}
 use Rattle.demands.proofs.Bench.{sheet-p-is-valid, bench-cases}
@@ -10,6 +10,7 @@ use Rattle.demands.proofs.CutWhole.{forms-join, replay-cut-in-two}
 use Rattle.demands.proofs.Exact.{acceptance-is-exact, rights-over-whole-span}
 use Rattle.demands.proofs.Folded.{replay-is-fold}
 use Rattle.demands.proofs.Identity.{identity-comes-back, control-is-ignored}
+use Rattle.demands.proofs.Mapped.{parameters-are-mapped, mapped-is-not-asked}
 use Rattle.demands.proofs.Histories.{history-is-run}
 use Rattle.demands.proofs.LawBench.{bench-by-law}
 use Rattle.demands.proofs.OnTheWire.{refused-on-the-wire}
@@ -74,3 +75,6 @@ request-6 = record {
   hidden-from-the-whole-replay = secrets-in-whole-replay;
   a-differing-record-reaches-nothing = only-agreeing-reach;
 }
+
+pub request-8 : Request8
+request-8 = record { every-parameter-is-mapped = parameters-are-mapped; the-check-never-fires = mapped-is-not-asked }

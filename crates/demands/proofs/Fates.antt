@@ -184,7 +184,7 @@ module _ (h : Sheet) (s m c : List ℕ) where
               size = parameter h s m c .size;
               from = _;
               stores = refl;
-              right = b .1 .1 .1 .1 .0;
+              right = b .1 .1 .1 .0;
               fits = fits-behind _ (parameter h s m c .size) (h .l) _ (b .1 .0) (b .1 .1 .0) long;
             }),
             (

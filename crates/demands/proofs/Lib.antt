@@ -12,6 +12,7 @@ pub mod Shown
 pub mod Secrets
 pub mod Lengths
 pub mod Identity
+pub mod Mapped
 pub mod Shut
 pub mod Replays
 pub mod Agreed

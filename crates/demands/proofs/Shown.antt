@@ -97,7 +97,7 @@ module _ (h : Sheet) (s m₁ m₂ c : List ℕ) (agree : AgreeShown (cells (h .r
             links = refl;
             checks = refl;
             done = λ all. reads-alike _ _
-                (held-same cs m₁ m₂ (parameter h s m₁ c .address) (parameter h s m₁ c .size) agree (all .1 .1 .1 .1 .0));
+                (held-same cs m₁ m₂ (parameter h s m₁ c .address) (parameter h s m₁ c .size) agree (all .1 .1 .1 .0));
           },
           (
             same-row _,

@@ -18,6 +18,7 @@ use Rattle.demands.specs.Hidden.{Demand3}
 use Rattle.demands.specs.Identity.{IdentityComesBack, ControlIsIgnored}
 use Rattle.demands.specs.Idle.{Demand2, KeepsSecrets, AgreesWhereReached, refusesAll, singleReply, storesNothing, echoesAfterwards, inventsRsn}
 use Rattle.demands.specs.LawBench.{BenchByLaw}
+use Rattle.demands.specs.Mapped.{ParametersAreMapped, MappedIsNotAsked}
 use Rattle.demands.specs.OnTheWire.{RefusedOnTheWire}
 use Rattle.demands.specs.Refused.{RefusedChangesNothing, StatesStayValid}
 use Rattle.demands.specs.Replays.{TracesHaveReplies, AgreesExactly, ReplayIsFold, CutInTwo, FormsJoin, ReplayCutInTwo, SecretsInReplay, OnlyAgreeingReach, ReplayPlays, RecordsAreAnswered, SecretsInWholeReplay, RefusedReplayWritesNothing}
@@ -99,3 +100,10 @@ pub record Request6 : Type 0 where
   pub hidden-from-the-whole-replay : SecretsInWholeReplay
   -- "and for demand 3 a write of that record reached nothing"
   pub a-differing-record-reaches-nothing : OnlyAgreeingReach
+
+-- Document 02, request 8, "A check that can't fire": "PRM_RD and PRM_WR ask whether the span is mapped; fault 17 ensures it. Show that no valid sheet
+-- reaches that alarm 9, and take the check out of code, definition and table." Demands 1 to 3 and the bench cases above are of the machine without it.
+pub record Request8 : Type 0 where
+  pub every-parameter-is-mapped : ParametersAreMapped
+  -- judged with the check, spelled out there, and judged without it is the same
+  pub the-check-never-fires : MappedIsNotAsked

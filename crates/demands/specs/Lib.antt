@@ -9,6 +9,7 @@ pub mod Writes
 pub mod Hidden
 pub mod Idle
 pub mod Identity
+pub mod Mapped
 pub mod Replays
 pub mod Unique
 pub mod Bench

@@ -38,8 +38,8 @@ use Rattle.machine.specs.declared.words.Judgement.{Judgement}
 use Rattle.machine.specs.declared.words.Judgement.the-variants.{Refused, Accepted}
 use Rattle.law.proofs.Laid.{when-no}
 use Rattle.law.proofs.Goes.{in-links, Goes, goes-dropped, goes-synced, goes-lost}
-use Rattle.law.proofs.World.{World}
-use Rattle.law.proofs.Rows.{nth, Same, J, refusing, via, step, quiet, kept, unmoved, alarms-row, clear-row, param-row, connect-row, mem-row, item-row}
+use Rattle.law.proofs.World.{nth, World}
+use Rattle.law.proofs.Rows.{Same, J, refusing, via, step, quiet, kept, unmoved, alarms-row, clear-row, param-row, connect-row, mem-row, item-row}
 
 -- a code is one of the eleven, or none
 by-code : (P : ℕ → Type 0) → P 0x00 → P 0x01 → P 0x02 → P 0x03 → P 0x05 → P 0x06 → P 0x0D → P 0x0E → P 0x0F → P 0x1D → P 0x1E

@@ -2,7 +2,7 @@
 use mathlib.Core.Bool.{Bool, true, false, not, _&&_, _||_}
 use mathlib.Core.Path.{_≡_, refl, sym, ap, ap₂, subst, _∙_}
 use mathlib.Core.List.{List, [], _∷_, map}
-use Prim.Native.Nat.{ℕ, zero, suc, _+_, _-_, _*_, _%_, _≤_}
+use Prim.Native.Nat.{ℕ, _+_, _-_, _*_, _%_, _≤_}
 use native.Mathlib.Omega.{arith}
 use borrow.Author.Tests.{leb-true, eqb-true}
 use lib.Dec.{eqb, leb, ltb}
@@ -29,12 +29,13 @@ use Rattle.link.proofs.Facts.{Facts}
 use Rattle.machine.specs.Connecting.{connectOf}
 use Rattle.machine.specs.Judging.{parameterData, parameterOf, itemData, itemOf, alarmsOf, clearOf, elementOf, memoryOf}
 use Rattle.machine.specs.Outcomes.{counting, finished}
-use Rattle.machine.specs.Spans.{spanOf, spanPlace, moved, rightOf}
+use Rattle.machine.specs.Spans.{grantedOf, spanOf, spanPlace, moved, rightOf}
 use Rattle.machine.specs.declared.words.Carrier.{Carrier}
 use Rattle.machine.specs.declared.words.Carrier.the-variants.{Parameter, Memory}
 use Rattle.regions.specs.Region.{regionsOf, givesOf}
 use Rattle.regions.specs.declared.Region.{Region}
 use Rattle.regions.specs.declared.Right.the-variants.{Mapped}
+use Rattle.regions.proofs.Spans.{span-mapped}
 use Rattle.sheet.specs.Entries.{parametersOf, soughtParameter}
 use Rattle.sheet.specs.declared.entries.SoughtItem.{SoughtItem}
 use Rattle.sheet.specs.declared.entries.SoughtParameter.{SoughtParameter}
@@ -48,12 +49,7 @@ use Rattle.law.proofs.Laid.{stored-none, laid-one, laid-two}
 use Rattle.law.proofs.Goes.{connect-goes, Goes, goes-kept, goes-latched, goes-cleared}
 use Rattle.law.proofs.Layouts.{asParameter, asRegion}
 use Rattle.law.proofs.Fields.{less-not, none-not, two-octets, com-mod, com-mods, com-time, param-found, param-missing, four-octets, elements}
-use Rattle.law.proofs.World.{dataPiece, written, World, mapped-is}
-
-abbrev pub nth : List Row → ℕ → Row
-nth [] i = row 0 [] [] [] [] []
-nth (r ∷ rs) zero = r
-nth (r ∷ rs) (suc i) = nth rs i
+use Rattle.law.proofs.World.{nth, pieceAt, dataPiece, written, World, mapped-is}
 
 module _ (h : Sheet) (sheet : List ℕ) (st : LinkState) (m c : List ℕ) where
   -- an outcome of the machine and a fate of the table are the same: alarm, next state, body and memory
@@ -73,14 +69,9 @@ module _ (h : Sheet) (sheet : List ℕ) (st : LinkState) (m c : List ℕ) where
     abbrev s : List ℕ
     s = octetsOf st
 
-    -- a row of the table by its place, and a piece of a body
+    -- a row of the table by its place
     abbrev pub rowAt : ℕ → Row
     rowAt i = nth (table h s m c) i
-
-    abbrev pub pieceAt : List Piece → ℕ → Piece
-    pieceAt [] i = piece 0 []
-    pieceAt (p ∷ ps) zero = p
-    pieceAt (p ∷ ps) (suc i) = pieceAt ps i
 
     pub refusing : (a : ℕ) → J (Refused a) (refused s a)
     unfolding finished refused laid
@@ -177,6 +168,19 @@ module _ (h : Sheet) (sheet : List ℕ) (st : LinkState) (m c : List ℕ) where
           ∙ ap (putAt m (spanPlace (map asRegion (h .regions)) a)) (sent n)
           ∙ world .writes a n (take n (drop from c)) q (simp (length-take, length-drop) (omega arith))
 
+      granted-row : (writes : Bool) (right : ℕ → Bool) (a n : ℕ) → ((x : ℕ) → right x ≡ givesOf x (rightOf writes (st .link))) → dataFrom by + n ≤ h .l
+          → (x : ℕ) (ns : List ℕ) (ks : List Check)
+          → J (grantedOf writes (map asRegion (h .regions)) by a n st)
+          (checked s (check (hasAll right (cells (h .regions)) a n) 10 0 ∷ [])
+          (row x ns ks [] (echo ∷ dataPiece writes from (cells (h .regions)) m c a n ∷ []) (written writes from c a n)))
+      unfolding grantedOf checked
+      granted-row writes right a n same l x ns ks =
+          let w = rightOf writes (st .link) in
+          let rs = map asRegion (h .regions) in
+          step _ _ 10 (ap not (sym (all-span right w same (h .regions) a n))) (λ t.
+          let q = all-span mapped Mapped mapped-is (h .regions) a n ∙ span-mapped rs w a n (sym (all-span right w same (h .regions) a n) ∙ t) in
+          doing (moved writes by (spanPlace rs a) n) st kept (moved-body writes a n q) (moved-memory writes a n l q))
+
       span-row : (writes : Bool) (right : ℕ → Bool) (a n : ℕ) → ((x : ℕ) → right x ≡ givesOf x (rightOf writes (st .link))) → dataFrom by + n ≤ h .l
           → (x : ℕ) (ns : List ℕ) (ks : List Check)
           → J (spanOf writes (map asRegion (h .regions)) by a n st)
@@ -184,9 +188,7 @@ module _ (h : Sheet) (sheet : List ℕ) (st : LinkState) (m c : List ℕ) where
           (row x ns ks [] (echo ∷ dataPiece writes from (cells (h .regions)) m c a n ∷ []) (written writes from c a n)))
       unfolding spanOf checked
       span-row writes right a n same l x ns ks =
-          step _ _ 9 (ap not (sym (all-span mapped Mapped mapped-is (h .regions) a n))) (λ q.
-          step _ _ 10 (ap not (sym (all-span right (rightOf writes (st .link)) same (h .regions) a n))) (λ w.
-          doing (moved writes by (spanPlace (map asRegion (h .regions)) a) n) st kept (moved-body writes a n q) (moved-memory writes a n l q)))
+          step _ _ 9 (ap not (sym (all-span mapped Mapped mapped-is (h .regions) a n))) (λ q. granted-row writes right a n same l x ns ks)
 
     found-or : (b : Bool) (a : ℕ) {y : Judgement} {f : Fate} → (b ≡ true → J y f) → (b ≡ false → J y (refused s a)) → J y (when b f (refused s a))
     unfolding when
@@ -224,8 +226,8 @@ module _ (h : Sheet) (sheet : List ℕ) (st : LinkState) (m c : List ℕ) where
           via (ap (λ (y : SoughtParameter). parameterData writes (regionsOf sheet (length (h .regions))) (layoutFor h) st (named code c) y) (at ∙ param-found (h .parameters) n b))
           (step _ _ 9 refl (λ e.
           step _ _ 9 (less-not _ size) (λ l.
-          via (ap (λ (rs : List Region). spanOf writes rs Parameter (p .address) (p .size) st) (world .regions))
-          (span-row Parameter (echoIn 1) (fromIn 1) parameter-lays writes right (p .address) (p .size) same
+          via (ap (λ (rs : List Region). grantedOf writes rs Parameter (p .address) (p .size) st) (world .regions))
+          (granted-row Parameter (echoIn 1) (fromIn 1) parameter-lays writes right (p .address) (p .size) same
           (let q = eqb-true size (p .size) e in let r = leb-true size _ l in parameter-least (p .size) (h .l) (world .long) (omega arith)) x ns ks)))))
           (λ b.
           via (ap (λ (y : SoughtParameter). parameterData writes (regionsOf sheet (length (h .regions))) (layoutFor h) st (named code c) y) (at ∙ param-missing (h .parameters) n b))

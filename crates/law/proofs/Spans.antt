@@ -44,7 +44,7 @@ inside-later start n a z =
     ap₂ _&&_ (le-leb start a l ∙ sym (le-leb (suc start) a u)) (ap (ltb a) (let e : start + suc n ≡ suc start + n = omega arith in e)))
     (lt-or-le a start)
 
-has-run : (q : ℕ → Bool) (start n rights : ℕ) (rest : List Cell) (a : ℕ)
+pub has-run : (q : ℕ → Bool) (start n rights : ℕ) (rest : List Cell) (a : ℕ)
     → has q (cellsFrom start n rights ++ rest) a ≡ when (inside start n a) (q rights) (has q rest a)
 unfolding has
 has-run q start zero rights rest a = sym (when-no _ _ (inside-none start a))

@@ -2,13 +2,13 @@
 use mathlib.Core.Bool.{Bool, true, false}
 use mathlib.Core.Path.{_≡_, refl}
 use mathlib.Core.List.{List, [], _∷_, map}
-use Prim.Native.Nat.{ℕ, _+_, _≤_}
+use Prim.Native.Nat.{ℕ, zero, suc, _+_, _≤_}
 use lib.ListN.{length, take, drop}
 use Rattle.octets.specs.Parts.{part, putAt}
 use Rattle.law.specs.Words.{oneOf, Piece, piece}
 use Rattle.law.specs.Sheet.{Item as Ident, Sheet}
 use Rattle.law.specs.Memory.{Cell, cells, stored, held, hasAll, mapped}
-use Rattle.law.specs.Table.{itemOf as identOf}
+use Rattle.law.specs.Table.{Row, row, itemOf as identOf}
 use Rattle.machine.specs.Spans.{spanPlace}
 use Rattle.regions.specs.Region.{regionsOf, givesOf}
 use Rattle.regions.specs.declared.Right.the-variants.{Mapped}
@@ -16,6 +16,17 @@ use Rattle.sheet.specs.Entries.{parametersOf, itemsOf, soughtItem}
 use Rattle.sheet.specs.declared.entries.Item.{Item}
 use Rattle.sheet.specs.declared.entries.SoughtItem.{SoughtItem}
 use Rattle.law.proofs.Layouts.{asParameter, asRegion}
+
+-- a row of a table and a piece of a body, each by its place
+abbrev pub nth : List Row → ℕ → Row
+nth [] i = row 0 [] [] [] [] []
+nth (r ∷ rs) zero = r
+nth (r ∷ rs) (suc i) = nth rs i
+
+abbrev pub pieceAt : List Piece → ℕ → Piece
+pieceAt [] i = piece 0 []
+pieceAt (p ∷ ps) zero = p
+pieceAt (p ∷ ps) (suc i) = pieceAt ps i
 
 -- the data of a span that a command reads or writes, from a place of the PDU on, and what is stored of it
 abbrev pub dataPiece : Bool → ℕ → List Cell → List ℕ → List ℕ → ℕ → ℕ → Piece

@@ -63,14 +63,13 @@ module _ (h : Sheet) (s m c : List ℕ) where
   abbrev pub parameter : Parameter
   parameter = parameterOf (h .parameters) number
 
-  -- 01 and 02: "4-5 number in sheet; 6 size equal to its size and at most L - 8; span mapped", then "Rights over the whole span: alarm 10". Of a
-  -- well-formed sheet every parameter's span is mapped, so the fourth check holds there
+  -- 01 and 02: "4-5 number in sheet; 6 size equal to its size and at most L - 8", then "Rights over the whole span: alarm 10". Document 01 asks "span
+  -- mapped" between the two; request 8 takes that out, since "fault 17 ensures it"
   abbrev pub parameterChecks : (ℕ → Bool) → List Check
   parameterChecks right =
       check (oneOf number (map (λ (p : Parameter). p .number) (h .parameters))) 9 4
       ∷ check (eqb (octet c 6) (parameter .size)) 9 6
       ∷ check (leb (octet c 6) (h .l - 8)) 9 6
-      ∷ check (hasAll mapped (cells (h .regions)) (parameter .address) (parameter .size)) 9 4
       ∷ check (hasAll right (cells (h .regions)) (parameter .address) (parameter .size)) 10 0
       ∷ []
 

@@ -14,20 +14,21 @@ use Rattle.sheet.specs.declared.entries.SoughtParameter.{SoughtParameter}
 use Rattle.sheet.specs.declared.walk.Layout.{Layout}
 use Rattle.machine.specs.Codes.{isKnown, isAllowed}
 use Rattle.machine.specs.Connecting.{connectOf}
-use Rattle.machine.specs.Spans.{spanOf}
+use Rattle.machine.specs.Spans.{grantedOf, spanOf}
 use Rattle.machine.specs.declared.words.Carrier.the-variants.{Parameter as ByParameter, Memory as ByMemory}
 use Rattle.machine.specs.declared.words.Command.{Command}
 use Rattle.machine.specs.declared.words.Effect.the-variants.{Quiet, Identifies, Alarms}
 use Rattle.machine.specs.declared.words.Judgement.{Judgement}
 use Rattle.machine.specs.declared.words.Judgement.the-variants.{Refused, Accepted}
 
--- 01 PRM_RD, 02 PRM_WR (which writes): "4-5 number in sheet; 6 size equal to its size and at most L - 8; span mapped"
+-- 01 PRM_RD, 02 PRM_WR (which writes): "4-5 number in sheet; 6 size equal to its size and at most L - 8"; request 8: fault 17 ensures that the
+-- span is mapped, and it is not asked
 unfoldable pub parameterData : Bool → List Region → Layout → LinkState → Command → SoughtParameter → Judgement
 parameterData writes rs lay st c SoughtParameter.Missing = Refused 9
 parameterData writes rs lay st c (SoughtParameter.Found p) =
     pick (not (eqb (c .size) (p .size))) (Refused 9)
     (pick (ltb (lay .l - 8) (c .size)) (Refused 9)
-    (spanOf writes rs ByParameter (p .address) (p .size) st))
+    (grantedOf writes rs ByParameter (p .address) (p .size) st))
 
 unfoldable pub parameterOf : Bool → List ℕ → Layout → LinkState → Command → Judgement
 parameterOf writes s lay st c =

@@ -1,4 +1,4 @@
--- Checks 4 and 5 over a span of memory: "all n octets in regions" (alarm 9), then "Rights over the whole span: alarm 10".
+-- Checks 4 and 5 over a span of memory: "all n octets in regions" (alarm 9), then "Rights over the whole span: alarm 10"; a parameter's is in regions.
 use Prim.Native.Nat.{ℕ}
 use mathlib.Core.Bool.{Bool, true, false, not}
 use mathlib.Core.List.{List}
@@ -36,9 +36,12 @@ placeIn Nowhere = 0
 abbrev pub spanPlace : List Region → ℕ → ℕ
 spanPlace rs a = placeIn (spotOf rs 0 a)
 
--- n octets from address a on are asked to be read, or to be written, for a parameter or a memory command
+-- n octets from address a on are asked to be read, or to be written: check 5, all there is to a parameter's span, since request 8
+unfoldable pub grantedOf : Bool → List Region → Carrier → ℕ → ℕ → LinkState → Judgement
+grantedOf writes rs by a n st =
+    pick (not (spanHas rs (rightOf writes (st .link)) a n)) (Refused 10)
+    (Accepted (moved writes by (spanPlace rs a) n) st)
+
+-- and before it check 4, of a memory command's span
 unfoldable pub spanOf : Bool → List Region → Carrier → ℕ → ℕ → LinkState → Judgement
-spanOf writes rs by a n st =
-    pick (not (spanHas rs Mapped a n)) (Refused 9)
-    (pick (not (spanHas rs (rightOf writes (st .link)) a n)) (Refused 10)
-    (Accepted (moved writes by (spanPlace rs a) n) st))
+spanOf writes rs by a n st = pick (not (spanHas rs Mapped a n)) (Refused 9) (grantedOf writes rs by a n st)

@@ -41,7 +41,7 @@ pub fn parameter(writes: bool, sheet: &[u8], layout: Layout, st: LinkState, c: C
     if room(layout.l, 8) < c.size {
         return Judgement::Refused(OUT_OF_RANGE);
     }
-    crate::spans::span(
+    crate::spans::granted(
         writes,
         sheet,
         layout.regions,

@@ -1,4 +1,4 @@
-// Checks 4 and 5 over a span of memory, the same for parameters and for memory.
+// Checks 4 and 5 over a span of memory. A parameter's span lies in regions, by fault 17, so it has check 5 alone.
 use crate::codes::NO_RIGHT;
 use crate::codes::OUT_OF_RANGE;
 use crate::words::Carrier;
@@ -10,7 +10,7 @@ use regions::search::Spot;
 ghost use mathlib.Core.Path.{_≡_};
 ghost use Rattle.regions.specs.Apart.{Laid};
 ghost use Rattle.regions.specs.Region.{regionsOf};
-ghost use Rattle.machine.specs.Spans.{rightOf, moved, spanPlace, spanOf};
+ghost use Rattle.machine.specs.Spans.{rightOf, moved, spanPlace, grantedOf, spanOf};
 
 // The memory place of a span's first octet; 0 where no region has it.
 fn place_of(sheet: &[u8], regions: u8, address: u32) -> u64
@@ -46,6 +46,28 @@ fn moves(writes: bool, by: Carrier, place: u64, size: u8) -> Effect
     Effect::Reads(by, place, size)
 }
 
+// A span asked to be read, or to be written, that is known to lie in regions: its right alone is asked.
+pub fn granted(
+    writes: bool,
+    sheet: &[u8],
+    regions: u8,
+    by: Carrier,
+    address: u32,
+    size: u8,
+    st: LinkState,
+) -> Judgement
+    requires { ⌜ Laid (now sheet) regions ⌝ }
+    ensures { λ r. ⌜ r ≡ grantedOf writes (regionsOf (now (sheet .entry)) regions) by address size st ⌝ }
+{
+    if regions::search::has(sheet, regions, right_of(writes, st.link), address, size) {
+        return Judgement::Accepted(
+            moves(writes, by, place_of(sheet, regions, address), size),
+            st,
+        );
+    }
+    Judgement::Refused(NO_RIGHT)
+}
+
 // A span asked to be read, or to be written. What has the right is mapped, so one search of the span accepts it; a second tells why it is refused.
 pub fn span(
     writes: bool,
@@ -59,14 +81,12 @@ pub fn span(
     requires { ⌜ Laid (now sheet) regions ⌝ }
     ensures { λ r. ⌜ r ≡ spanOf writes (regionsOf (now (sheet .entry)) regions) by address size st ⌝ }
 {
-    if regions::search::has(sheet, regions, right_of(writes, st.link), address, size) {
-        return Judgement::Accepted(
-            moves(writes, by, place_of(sheet, regions, address), size),
-            st,
-        );
-    }
+    let asked = granted(writes, sheet, regions, by, address, size, st);
+    let Judgement::Refused(_) = asked else {
+        return asked;
+    };
     if regions::search::has(sheet, regions, Right::Mapped, address, size) {
-        return Judgement::Refused(NO_RIGHT);
+        return asked;
     }
     Judgement::Refused(OUT_OF_RANGE)
 }

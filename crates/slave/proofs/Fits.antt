@@ -14,7 +14,7 @@ use Rattle.link.specs.declared.state.LinkState.{LinkState}
 use Rattle.machine.specs.Connecting.{connectOf}
 use Rattle.machine.specs.Judging.{parameterData, parameterOf, itemData, itemOf, alarmsOf, clearOf, elementOf, memoryOf, dataOf, judgeOf}
 use Rattle.machine.specs.Outcomes.{finished, outcomeOf}
-use Rattle.machine.specs.Spans.{moved, spanPlace, placeIn, spanOf}
+use Rattle.machine.specs.Spans.{rightOf, moved, spanPlace, placeIn, grantedOf, spanOf}
 use Rattle.machine.specs.declared.words.Carrier.{Carrier}
 use Rattle.machine.specs.declared.words.Carrier.the-variants.{Parameter as ByParameter, Memory as ByMemory}
 use Rattle.machine.specs.declared.words.Command.{Command}
@@ -26,7 +26,7 @@ use Rattle.regions.specs.Region.{regionsOf}
 use Rattle.regions.specs.Search.{beforeOf, spanHas}
 use Rattle.regions.specs.declared.Right.the-variants.{Mapped}
 use Rattle.regions.proofs.Places.{mapped-spot, span-inside}
-use Rattle.regions.proofs.Spans.{all-before}
+use Rattle.regions.proofs.Spans.{all-before, span-mapped}
 use Rattle.sheet.specs.Entries.{parametersOf, itemsOf, soughtParameter, soughtItem}
 use Rattle.sheet.specs.declared.entries.SoughtItem.{SoughtItem}
 use Rattle.sheet.specs.declared.entries.SoughtParameter.{SoughtParameter}
@@ -60,14 +60,21 @@ module _ (s : List ℕ) (lay : Layout) (ok : ValidSheet s lay) (st : LinkState) 
       let sum = ok .sound .memory-sum in
       omega arith
 
+  -- what has a right is mapped
+  granted-fits : (writes : Bool) (by : Carrier) (a n : ℕ) → 1 ≤ n → dataFrom by + n ≤ lay .l
+      → Fit (grantedOf writes (regionsOf s (lay .regions)) by a n st) (lay .l) (lay .memory) (length s)
+  unfolding grantedOf
+  granted-fits writes by a n one room =
+      let rs = regionsOf s (lay .regions) in
+      pick-cases (λ (j : Judgement). Fit j (lay .l) (lay .memory) (length s)) _ (λ u. tt)
+      (λ u.
+      moved-fits writes by (spanPlace rs a) n (lay .l) (lay .memory) (length s) room
+      (span-room a n one (span-mapped rs (rightOf writes (st .link)) a n (not-false _ u))))
+
   span-fits : (writes : Bool) (by : Carrier) (a n : ℕ) → 1 ≤ n → dataFrom by + n ≤ lay .l
       → Fit (spanOf writes (regionsOf s (lay .regions)) by a n st) (lay .l) (lay .memory) (length s)
   unfolding spanOf
-  span-fits writes by a n one room =
-      pick-cases (λ (j : Judgement). Fit j (lay .l) (lay .memory) (length s)) _ (λ u. tt)
-      (λ u.
-      pick-both (λ (j : Judgement). Fit j (lay .l) (lay .memory) (length s)) _ tt
-      (moved-fits writes by (spanPlace (regionsOf s (lay .regions)) a) n (lay .l) (lay .memory) (length s) room (span-room a n one (not-false _ u))))
+  span-fits writes by a n one room = pick-both (λ (j : Judgement). Fit j (lay .l) (lay .memory) (length s)) _ tt (granted-fits writes by a n one room)
 
   parameter-found : (writes : Bool) (x : SoughtParameter) → soughtParameter (parametersOf s (lay .regions) (lay .parameters)) (c .number) ≡ x
       → Fit (parameterData writes (regionsOf s (lay .regions)) lay st c x) (lay .l) (lay .memory) (length s)
@@ -82,7 +89,7 @@ module _ (s : List ℕ) (lay : Layout) (ok : ValidSheet s lay) (st : LinkState) 
       let same = eqb-true (c .size) (p .size) (not-false _ u) in
       let room = ltb-false (lay .l - 8) (c .size) v in
       let some = fine .some in
-      span-fits writes ByParameter (p .address) (p .size) some (parameter-room (p .size) (lay .l) some (omega arith))))
+      granted-fits writes ByParameter (p .address) (p .size) some (parameter-room (p .size) (lay .l) some (omega arith))))
 
   item-found : (x : SoughtItem) → soughtItem (itemsOf s (lay .regions) (lay .parameters) (lay .items)) (c .item) ≡ x
       → Fit (itemData lay st c x) (lay .l) (lay .memory) (length s)

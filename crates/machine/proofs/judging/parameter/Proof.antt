@@ -1,4 +1,4 @@
--- `machine::judging::parameter` meets its contract: number, size, room, and the span.
+-- `machine::judging::parameter` meets its contract: number, size, room, and the right over the span.
 use Prim.Native.Nat.{ℕ, _<_, _≤_}
 use mathlib.Core.Path.{sym, ap, subst, _∙_}
 use native.Mathlib.Omega.{arith}
@@ -36,7 +36,7 @@ returns-3 c =
 returns-4 : tie.Need-returns-4
 unfolding parameterOf parameterData
 returns-4 c =
-    c .span .ensures
+    c .granted .ensures
     ∙ sym
     (ap (parameterData (c .before .before .before .before .before .before .before .before .before .before .before .before .args .writes) (regionsOf (c .before .before .before .before .before .before .before .before .before .before .before .before .args .sheet .now) (c .before .before .before .before .before .before .before .before .before .before .before .before .args .layout .regions)) (c .before .before .before .before .before .before .before .before .before .before .before .before .args .layout) (c .before .before .before .before .before .before .before .before .before .before .before .before .args .st) (c .before .before .before .before .before .before .before .before .before .before .before .before .args .c)) (sym (c .before .before .before .before .before .before .before .before .before .before .find-parameter .ensures) ∙ c .before .before .before .before .before .before .before .before .found .given .1)
     ∙ pick-same _ _ (c .before .before .before .before .if1 .left)

@@ -1,42 +1,55 @@
--- `machine::spans::span` meets its contract: mapped, then with the right.
+-- `machine::spans::span` meets its contract: what has the right is mapped, and what has not is asked whether it is.
 use Prim.Native.Nat.{ℕ}
-use mathlib.Core.Bool.{not}
-use mathlib.Core.Path.{sym, ap, _∙_}
+use mathlib.Core.Bool.{Bool, true, false, not}
+use mathlib.Core.Logic.{⊎-elim}
+use mathlib.Core.Path.{_≡_, sym, ap, _∙_}
+use mathlib.Core.List.{List}
+use native.Mathlib.Omega.{arith}
 use borrow.Author.Needs.{needs}
+use Rattle.octets.proofs.Cases.{decided}
 use Rattle.octets.proofs.Pick.{pick-yes, pick-no}
+use Rattle.link.specs.declared.state.LinkState.{LinkState}
 use Rattle.regions.specs.Region.{regionsOf}
 use Rattle.regions.specs.Search.{spanHas}
-use Rattle.regions.specs.declared.Right.{Right}
+use Rattle.regions.specs.declared.Region.{Region}
 use Rattle.regions.proofs.Spans.{span-mapped}
-use Rattle.machine.specs.Spans.{moved, spanOf}
+use Rattle.machine.specs.Spans.{rightOf, grantedOf, spanOf}
+use Rattle.machine.specs.declared.words.Carrier.{Carrier}
 use Rattle.machine.specs.declared.words.Effect.{Effect}
-use Rattle.machine.specs.declared.words.Judgement.the-variants.{Accepted}
+use Rattle.machine.specs.declared.words.Judgement.{Judgement}
+use Rattle.machine.specs.declared.words.Judgement.the-variants.{Refused, Accepted}
 use Rattle.machine.proofs.spans.span.Statement.{statement}
 use Rattle.machine.proofs.spans.span.Tie as tie
+
+-- what is granted has the right
+granted-right : (writes : Bool) (rs : List Region) (by : Carrier) (a n : ℕ) (st : LinkState) (e : Effect) (next : LinkState)
+    → grantedOf writes rs by a n st ≡ Accepted e next → spanHas rs (rightOf writes (st .link)) a n ≡ true
+unfolding grantedOf
+granted-right writes rs by a n st e next q =
+    ⊎-elim (λ (t : spanHas rs (rightOf writes (st .link)) a n ≡ true). t)
+    (λ (f : spanHas rs (rightOf writes (st .link)) a n ≡ false).
+    let w : Refused 10 ≡ Accepted e next = sym (pick-yes _ _ (ap not f)) ∙ q in
+    absurd (let z : _≡_ {A = ℕ} 0 1 = cc in let v : ⊥ = omega arith in v))
+    (decided (spanHas rs (rightOf writes (st .link)) a n))
 
 returns : tie.Need-returns
 unfolding spanOf
 returns c =
-    let a = c .before .before .before .before .before .before .args in
+    let a = c .before .before .before .before .args in
     let rs = regionsOf (a .sheet .now) (a .regions) in
-    let e = c .before .before .before .has .ensures ∙ ap (λ (w : Right). spanHas rs w (a .address) (a .size)) (c .before .before .before .before .right-of .ensures) in
-    let h = sym e ∙ c .before .before .if1 .taken in
-    let m = c .moves .ensures ∙ ap (λ (p : ℕ). moved (a .writes) (a .by) p (a .size)) (c .before .place-of .ensures) in
-    ap (λ (x : Effect). Accepted x (a .st)) m
-    ∙ sym (pick-no _ _ (ap not (span-mapped rs _ (a .address) (a .size) h)) ∙ pick-no _ _ (ap not h))
+    let e = c .before .before .granted .ensures in
+    let g = c .enum-told2 .given in
+    let h = granted-right (a .writes) rs (a .by) (a .address) (a .size) (a .st) (g .0 .0) (g .0 .1 .0) (sym e ∙ g .1) in
+    e ∙ sym (pick-no _ _ (ap not (span-mapped rs (rightOf (a .writes) (a .st .link)) (a .address) (a .size) h)))
 
 returns-2 : tie.Need-returns-2
 unfolding spanOf
-returns-2 c =
-    let a = c .before .before .before .before .before .before .args in
-    let rs = regionsOf (a .sheet .now) (a .regions) in
-    let e = c .before .before .before .has .ensures ∙ ap (λ (w : Right). spanHas rs w (a .address) (a .size)) (c .before .before .before .before .right-of .ensures) in
-    sym (pick-no _ _ (ap not (sym (c .before .has2 .ensures) ∙ c .if2 .taken)) ∙ pick-yes _ _ (ap not (sym e ∙ c .before .before .if1 .left)))
+returns-2 c = c .before .before .before .before .granted .ensures ∙ sym (pick-no _ _ (ap not (sym (c .before .has .ensures) ∙ c .if1 .taken)))
 
 returns-3 : tie.Need-returns-3
 unfolding spanOf
-returns-3 c = sym (pick-yes _ _ (ap not (sym (c .before .has2 .ensures) ∙ c .if2 .left)))
+returns-3 c = sym (pick-yes _ _ (ap not (sym (c .before .has .ensures) ∙ c .if1 .left)))
 
 pub span-spec : {M : Type 1} → statement M
 span-spec =
-    tie.close (tie.spec (λ c κs. search needs) (λ c κs. search needs) (λ c κs. search needs) (λ c κs. search needs) returns (λ c κs. search needs) returns-2 returns-3)
+    tie.close (tie.spec (λ c κs. search needs) (λ c. search needs) (λ c. search needs) returns (λ c κs. search needs) returns-2 returns-3)
