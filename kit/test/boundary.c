@@ -34,6 +34,8 @@ static const struct group groups[] = {
     { "refusals: really big buffers", refusal_big },
     { "refusals: null pointers of length 0", refusal_empty },
     { "commands: every code at every L", command_codes },
+    { "parameters: the right alone", parameter_rights },
+    { "parameters: fault 17", parameter_unmapped },
     { "identity: comes back in every reply", identity_comes_back },
     { "identity: other bits of control ignored", identity_others_ignored },
     { "identity: at every L", identity_every_l },

@@ -30,6 +30,8 @@ void accident_other_l(void);
 void bench_cases(void);
 void bench_program(void);
 void command_codes(void);
+void parameter_rights(void);
+void parameter_unmapped(void);
 void identity_comes_back(void);
 void identity_others_ignored(void);
 void identity_every_l(void);
