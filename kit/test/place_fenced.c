@@ -19,7 +19,7 @@ static struct {
     size_t len;
 } places[ROLES];
 
-static size_t room_len;
+static size_t page, room_len;
 static const char *const *group_name;
 
 /* A touched fence ends the test with words instead of a bare signal. */
@@ -36,10 +36,10 @@ static void on_fence(int signal_number)
 
 void place_open(const char *const *group)
 {
-    const size_t page = (size_t)sysconf(_SC_PAGESIZE);
     int r;
 
     group_name = group;
+    page = (size_t)sysconf(_SC_PAGESIZE);
     room_len = LENT_MAX + page;
     for (r = 0; r < ROLES; r++) {
         void *all = mmap(NULL, room_len + 2 * page, PROT_NONE,
@@ -92,12 +92,28 @@ long changed_outside(int role, int back)
     return -1;
 }
 
+/* The pages of a buffer and its guards; a whole room would take the system as
+ * long as the rest of the test. */
+static void protect(int role, int protection)
+{
+    size_t from, to;
+
+    if (places[role].at == NULL)
+        return;
+    from = (size_t)(places[role].at - places[role].room);
+    to = (from + places[role].len + GUARD + page - 1) / page * page;
+    from = (from > GUARD ? from - GUARD : 0) / page * page;
+    if (to > room_len)
+        to = room_len;
+    if (mprotect(places[role].room + from, to - from, protection) != 0)
+        exit(3);
+}
+
 void place_lock(int locked)
 {
     const int protection = locked ? PROT_READ : PROT_READ | PROT_WRITE;
 
-    if (mprotect(places[SHEET].room, room_len, protection) != 0
-        || mprotect(places[COMMAND].room, room_len, protection) != 0
-        || mprotect(places[TRACE].room, room_len, protection) != 0)
-        exit(3);
+    protect(SHEET, protection);
+    protect(COMMAND, protection);
+    protect(TRACE, protection);
 }

@@ -96,14 +96,14 @@ wraps() {
 
 test_that_tests_fail() {
     say "the tests can fail"
-    $C -static -DWRONG_EXPECTATION $SOURCES $LIB -o "$work/wrong"
-    must_fail "a wrong expectation" FAILED run "$work/wrong" stop
-    $C -static $SOURCES spoil.c $LIB $(wraps) -o "$work/spoiled"
+    $HAND -static -DWRONG_EXPECTATION $SOURCES $HAND_LIB -o "$work/wrong"
+    must_fail "a wrong expectation" FAILED hand "$work/wrong" stop
+    $HAND -static $SOURCES spoil.c $HAND_LIB $(wraps) -o "$work/spoiled"
     export SPOIL=0
-    run "$work/spoiled" stop >"$work/out" || fail "unspoiled, yet fails"
+    hand "$work/spoiled" stop >"$work/out" || fail "unspoiled, yet fails"
     for number in 1 2 3 4 5 6 7 8 9 10 11 12 13 14 15 16 17 18 19 20 21 22 23; do
         SPOIL=$number
-        must_fail "spoil $number" FAILED run "$work/spoiled" stop
+        must_fail "spoil $number" FAILED hand "$work/spoiled" stop
     done
     unset SPOIL
 }
@@ -114,8 +114,8 @@ wrong_words() {
     cp -r "$dist/include" "$work/wrong-include"
     sed "$3" "$dist/include/$2" >"$work/wrong-include/$2"
     ! cmp -s "$dist/include/$2" "$work/wrong-include/$2" || fail "no edit: $1"
-    $CC -std=c99 -static -I"$work/wrong-include" $SOURCES $LIB -o "$work/wrong"
-    must_fail "$1" FAILED run "$work/wrong" stop
+    $HAND_CC -std=c99 -static -I"$work/wrong-include" $SOURCES $HAND_LIB -o "$work/wrong"
+    must_fail "$1" FAILED hand "$work/wrong" stop
 }
 
 test_that_words_fail() {
