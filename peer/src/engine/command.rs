@@ -2,7 +2,7 @@
 
 use super::memory_mode;
 use super::octets::{number_16, number_32};
-use super::region::{find_span, Span, READ, WRITE_ASYNC, WRITE_SYNC};
+use super::region::{find_span, mapped_span, Span, READ, WRITE_ASYNC, WRITE_SYNC};
 use super::sheet::Sheet;
 use super::state::{Link, State};
 use std::ops::Range;
@@ -137,12 +137,13 @@ fn permitted(span: Span, right: u8) -> Result<usize, u8> {
     }
 }
 
+/// Its span is not asked for: a sheet with an unmapped one is refused, fault 17 (request 8).
 fn parameter(sheet: &Sheet, command: &[u8], right: u8) -> Result<Transfer, u8> {
     let number = number_16(command, 4);
     let parameter = sheet.find_parameter(number).ok_or(ALARM_DATA)?;
     let length = usize::from(parameter.size);
     require(command[6] == parameter.size && length <= command.len() - SHORT_HEAD)?;
-    let span = find_span(sheet.regions(), parameter.address, length).ok_or(ALARM_DATA)?;
+    let span = mapped_span(sheet.regions(), parameter.address, length);
     Ok(Transfer {
         place: permitted(span, right)?,
         length,

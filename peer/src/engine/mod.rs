@@ -1,5 +1,5 @@
 //! The slave on byte slices, as document 01 ("What we are to build") rules,
-//! with requests 1 and 6 of document 02.
+//! with requests 1, 6 and 8 of document 02.
 //!
 //! Each call answers number + 2^32 × place. A call with a number other than 0
 //! has written nothing, except a replay's difference (34), which has replayed
@@ -19,6 +19,8 @@ pub mod state;
 mod bench_cases;
 #[cfg(test)]
 mod identity_tests;
+#[cfg(test)]
+mod parameter_tests;
 #[cfg(test)]
 mod replay_tests;
 #[cfg(test)]

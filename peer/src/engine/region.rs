@@ -58,3 +58,21 @@ pub fn find_span(regions: impl Iterator<Item = Region>, address: u32, size: usiz
     }
     None
 }
+
+/// The span of `size` octets that all are in regions, as those of a good sheet's parameter are.
+///
+/// Its place is behind all octets of memory whose addresses are lower.
+pub fn mapped_span(regions: impl Iterator<Item = Region>, address: u32, size: usize) -> Span {
+    let start = u64::from(address);
+    let end = start + size as u64;
+    let mut place = 0;
+    let mut rights = RIGHTS;
+    for region in regions {
+        place += start.saturating_sub(region.start).min(region.length);
+        if region.start < end && start < region.end() {
+            rights &= region.rights;
+        }
+    }
+    let place = place as usize;
+    Span { place, rights }
+}
