@@ -39,6 +39,13 @@ pub fn exchange_from(rig: &mut Rig, state: &[u8], command: &[u8]) -> Outcome {
     exchange(rig, command)
 }
 
+/// The report of an exchange from this state on which both engines agreed against the rules.
+pub fn unexpected(rig: &mut Rig, state: &[u8], what: &str) -> Box<Difference> {
+    rig.inputs.state = state.to_vec();
+    rig.inputs.memory = build::distinct_octets(rig.inputs.memory.len());
+    rig.difference(what)
+}
+
 /// Takes a good sheet with a memory that tells its places apart.
 pub fn take_plan(rig: &mut Rig, plan: &Plan) {
     rig.inputs.sheet = plan.octets();

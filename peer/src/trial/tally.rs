@@ -9,6 +9,7 @@ use crate::engine::region::Region;
 use crate::engine::sheet::Sheet;
 use std::collections::BTreeMap;
 use std::fmt;
+use std::ops::Range;
 
 const NAMES: [&str; 11] = [
     "NOP",
@@ -24,6 +25,8 @@ const NAMES: [&str; 11] = [
     "MEM_WR",
 ];
 const ALARMS: [usize; 4] = [8, 9, 10, 12];
+/// PRM_RD, PRM_WR, MEM_RD and MEM_WR.
+const SPANNING: [u8; 4] = [0x01, 0x02, 0x1D, 0x1E];
 
 /// Built replies of one code, or of one identity.
 #[derive(Clone, Copy, Default)]
@@ -72,8 +75,8 @@ pub struct Tally {
     identities: [Replies; 4],
     calls: BTreeMap<Call, u64>,
     numbers: BTreeMap<(Call, u32), u64>,
-    /// Accepted memory commands over more than one region.
-    crossings: u64,
+    /// Accepted commands over more than one region, by the codes that have a span.
+    crossings: BTreeMap<u8, u64>,
 }
 
 impl Default for Tally {
@@ -83,7 +86,7 @@ impl Default for Tally {
             identities: [Replies::default(); 4],
             calls: BTreeMap::new(),
             numbers: BTreeMap::new(),
-            crossings: 0,
+            crossings: BTreeMap::new(),
         }
     }
 }
@@ -105,8 +108,8 @@ impl Tally {
         let lost = before == SYNC && after.state[LINK_AT] == ASYNC;
         self.codes[usize::from(reply[0])].add(before, alarm, lost);
         self.identities[usize::from(reply[2] >> 6)].add(before, alarm, lost);
-        if !lost && alarm == 0 {
-            self.crossings += u64::from(crosses_regions(after));
+        if !lost && alarm == 0 && crosses_regions(after) {
+            *self.crossings.entry(reply[0]).or_insert(0) += 1;
         }
     }
 
@@ -131,12 +134,12 @@ impl Tally {
         for (&code, name) in CODES.iter().zip(NAMES) {
             let replies = &self.codes[usize::from(code)];
             gaps.extend(replies.gaps(name, &links_allowing(code), &alarms_of(code)));
+            if SPANNING.contains(&code) && !self.crossings.contains_key(&code) {
+                gaps.push(format!("{name} accepted over two regions"));
+            }
         }
         for (identity, replies) in self.identities.iter().enumerate() {
             gaps.extend(replies.gaps(&identity_name(identity), &[1, 2, 3], &ALARMS));
-        }
-        if self.crossings == 0 {
-            gaps.push("memory command over two regions".to_string());
         }
         gaps.extend(self.number_gaps());
         gaps
@@ -190,20 +193,31 @@ impl Tally {
 
 /// Whether an accepted command reached memory in more than one region.
 fn crosses_regions(inputs: &Inputs) -> bool {
-    let command = &inputs.command;
-    if command[0] != 0x1D && command[0] != 0x1E {
+    if !SPANNING.contains(&inputs.command[0]) {
         return false;
     }
-    let element = memory_mode::element_octets(command[5]).unwrap_or(0) as u64;
-    let start = u64::from(number_32(command, 8));
-    let end = start + element * u64::from(number_16(command, 6));
     match Sheet::read(&inputs.sheet) {
         Ok(sheet) => {
-            let touched = |region: &Region| start < region.end() && region.start < end;
+            let span = span_of(&sheet, &inputs.command);
+            let touched = |region: &Region| span.start < region.end() && region.start < span.end;
             sheet.regions().filter(touched).count() > 1
         }
         Err(_) => false,
     }
+}
+
+/// The addresses that an accepted command of a code with a span means.
+fn span_of(sheet: &Sheet, command: &[u8]) -> Range<u64> {
+    let number = number_16(command, 4);
+    let (start, octets) = match sheet.find_parameter(number) {
+        Some(parameter) if command[0] <= 0x02 => (parameter.address, u64::from(parameter.size)),
+        _ => {
+            let element = memory_mode::element_octets(command[5]).unwrap_or(0) as u64;
+            let count = u64::from(number_16(command, 6));
+            (number_32(command, 8), element * count)
+        }
+    };
+    u64::from(start)..u64::from(start) + octets
 }
 
 fn identity_name(identity: usize) -> String {
@@ -247,11 +261,12 @@ impl fmt::Display for Tally {
         for (identity, replies) in self.identities.iter().enumerate() {
             self.write_row(formatter, &identity_name(identity), replies)?;
         }
-        writeln!(
-            formatter,
-            "accepted over more than one region: {}",
-            self.crossings
-        )?;
+        for (code, count) in &self.crossings {
+            writeln!(
+                formatter,
+                "code {code:02X} accepted over more than one region: {count}"
+            )?;
+        }
         for (&(call, number), count) in &self.numbers {
             writeln!(formatter, "{call:?} with number {number}: {count}")?;
         }

@@ -5,7 +5,7 @@ use crate::engine::memory_mode;
 use crate::trial::build;
 use crate::trial::call::Call;
 use crate::trial::plan::{Plan, LENGTHS};
-use crate::trial::probe::{exchange_from, take_plan, Outcome};
+use crate::trial::probe::{exchange_from, take_plan, unexpected, Outcome};
 use crate::trial::recorder::Recorder;
 use crate::trial::report::Difference;
 use crate::trial::rig::Rig;
@@ -84,9 +84,7 @@ fn echoes(rig: &mut Rig, state: &[u8], command: &[u8], control: [u8; 2]) -> Outc
     if left(rig, state, command, control)? == expected {
         return Ok(());
     }
-    rig.inputs.state = state.to_vec();
-    rig.inputs.memory = build::distinct_octets(rig.inputs.memory.len());
-    Err(rig.difference("the echo expected"))
+    Err(unexpected(rig, state, "the echo expected"))
 }
 
 /// Reply, state and memory of one exchange with these octets 2 and 3.

@@ -6,6 +6,7 @@ mod identities;
 mod limits;
 mod links;
 mod octets;
+mod parameters;
 mod sheets;
 mod states;
 mod traces;
@@ -19,6 +20,7 @@ pub fn run(rig: &mut Rig) -> Outcome {
     states::run(rig)?;
     links::run(rig)?;
     identities::run(rig)?;
+    parameters::run(rig)?;
     data::run(rig)?;
     octets::run(rig)?;
     limits::run(rig)?;
