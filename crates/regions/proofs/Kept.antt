@@ -4,6 +4,7 @@
 --     kept-region                    behind that end, a region that does not deny the octet is the next at hand
 --     kept-out, kept-denied          where no region is left, or one denies the octet, as many octets come before as were passed
 --     kept-ends                      where it comes to the span's end, no octet lacks the right
+--     kept-within                    no more regions are passed than there are
 use mathlib.Core.Bool.{Bool, true, false, not, true≢false}
 use mathlib.Core.Logic.{⊎-elim}
 use mathlib.Core.Path.{_≡_, refl, sym, subst, _∙_}
@@ -43,7 +44,7 @@ module _ (r : Region) (w : Right) (a : ℕ) where
   unfolding deniesOf
   denied-right t l = failed (givesOf (r .rights) w) (sym (pick-gt _ _ (denied-behind t) ∙ pick-ge _ _ l) ∙ t)
 
-  spared-start : deniesOf r w a ≡ false → a < r .start + r .length → r .start ≤ a
+  pub spared-start : deniesOf r w a ≡ false → a < r .start + r .length → r .start ≤ a
   unfolding deniesOf
   spared-start t u =
       ⊎-elim
@@ -76,6 +77,13 @@ module _ (f : ℕ → Region) (n : ℕ) (w : Right) (a : ℕ) where
       reached = λ l. subst (λ (to : ℕ). Passing f n w a to i) (let e : end ≡ at + 1 = omega arith in e) (k .beyond h);
       beyond = λ l. k .beyond h;
     }
+
+    pub kept-within : i ≤ n
+    kept-within =
+        ⊎-elim
+        (λ (l : at < end). k .beyond l .within)
+        (λ (l : end ≤ at). k .reached l .within)
+        (lt-or-le at end)
 
     pub kept-ends : (size : ℕ) → a + size ≤ at → size ≡ beforeOf (listed f 0 n) w a size
     kept-ends size h =

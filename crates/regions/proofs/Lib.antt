@@ -8,3 +8,4 @@ pub mod Passed
 pub mod Passing
 pub mod Kept
 pub mod Places
+pub mod Placed

@@ -15,11 +15,10 @@ use Rattle.octets.proofs.Cases.{decided}
 use Rattle.octets.proofs.Pick.{pick-yes, pick-no}
 use Rattle.regions.specs.Apart.{Apart}
 use Rattle.regions.specs.Region.{holdsOf, givesOf}
-use Rattle.regions.specs.Search.{totalOf, spotOf, grantsOf, beforeOf}
+use Rattle.regions.specs.Search.{At, Nowhere, totalOf, spotOf, grantsOf, beforeOf}
 use Rattle.regions.specs.declared.Region.{Region}
 use Rattle.regions.specs.declared.Right.{Right}
 use Rattle.regions.specs.declared.Right.the-variants.{Mapped}
-use Rattle.regions.specs.declared.search.Spot.the-variants.{At, Nowhere}
 use Rattle.regions.proofs.Bounds.{holds-bounds, past-misses, misses-past}
 use Rattle.regions.proofs.Spans.{all-before}
 

@@ -1,18 +1,15 @@
 -- The turns of the searches: what is searched from one region on is what is searched from the next on.
 use mathlib.Core.Bool.{true, false}
-use mathlib.Core.Path.{_≡_, refl, ap, subst, _∙_}
+use mathlib.Core.Path.{_≡_, refl, ap, _∙_}
 use mathlib.Core.List.{List}
 use Prim.Native.Nat.{ℕ, zero, suc, _+_, _-_, _<_, _≤_}
 use native.Mathlib.Nat.{le-refl}
 use native.Mathlib.Omega.{arith}
 use Rattle.octets.proofs.Pick.{pick-yes, pick-no}
-use Rattle.regions.specs.Apart.{Apart}
 use Rattle.regions.specs.Region.{listed, holdsOf, givesOf}
-use Rattle.regions.specs.Search.{spotOf, grantsOf}
+use Rattle.regions.specs.Search.{At, spotOf, grantsOf}
 use Rattle.regions.specs.declared.Region.{Region}
 use Rattle.regions.specs.declared.Right.{Right}
-use Rattle.regions.specs.declared.search.Spot.the-variants.{At, Nowhere}
-use Rattle.regions.proofs.Apart.{apart-behind}
 use Rattle.regions.proofs.Bounds.{past-misses, below-misses}
 use Rattle.regions.proofs.Listed.{listed-next, listed-end, listed-whole}
 
@@ -36,25 +33,9 @@ module _ (f : ℕ → Region) (i n : ℕ) (r : Region) (e : r ≡ f i) (h : i < 
   grants-past w a t = rw (listed-next f i n h, ← e) (pick-no _ _ t)
 
 module _ (f : ℕ → Region) (i n : ℕ) (h : n ≤ i) where
-  pub spot-end : (base a : ℕ) → spotOf (listed f i (n - i)) base a ≡ Nowhere
-  unfolding spotOf
-  spot-end base a = rw (listed-end f i n h)
-
   pub grants-end : (w : Right) (a : ℕ) → grantsOf (listed f i (n - i)) w a ≡ false
   unfolding grantsOf
   grants-end w a = rw (listed-end f i n h)
-
--- regions that start behind an address have it not, and so no place
-spot-none : (f : ℕ → Region) (a k m base : ℕ) → ((j : ℕ) → k ≤ j → j < k + m → a < f j .start) → spotOf (listed f k m) base a ≡ Nowhere
-unfolding listed spotOf
-spot-none f a k zero base starts = refl
-spot-none f a k (suc m) base starts =
-    pick-no _ _ (below-misses (f k) a (starts k (le-refl k) (omega arith)))
-    ∙ spot-none f a (suc k) m (base + f k .length) (λ j l u. starts j (omega arith) (omega arith))
-
-pub spot-gap : (f : ℕ → Region) (n : ℕ) → Apart 0 (listed f 0 n) → (i : ℕ) → i < n → (r : Region) → r ≡ f i → (base a : ℕ) → a < r .start
-    → spotOf (listed f i (n - i)) base a ≡ Nowhere
-spot-gap f n d i h r e base a l = spot-none f a i (n - i) base (apart-behind f n d i a h (subst (λ (q : Region). a < q .start) e l))
 
 -- regions that end at or before an address are passed
 pub grants-from : (f : ℕ → Region) (n i : ℕ) → i ≤ n → (w : Right) (a : ℕ) → ((j : ℕ) → j < i → f j .start + f j .length ≤ a)

@@ -7,8 +7,12 @@ use Rattle.octets.specs.Pick.{pick}
 use Rattle.regions.specs.Region.{holdsOf, givesOf}
 use Rattle.regions.specs.declared.Region.{Region}
 use Rattle.regions.specs.declared.Right.{Right}
-use Rattle.regions.specs.declared.search.Spot.{Spot}
-use Rattle.regions.specs.declared.search.Spot.the-variants.{At, Nowhere}
+use Rattle.regions.specs.declared.search.Reach.{Reach}
+
+-- where an octet stands: at a memory place, with its region's rights, or in no region
+pub data Spot : Type 0 where
+  At : ℕ → ℕ → Spot
+  Nowhere : Spot
 
 -- the octets of memory that the regions take
 unfoldable pub totalOf : List Region → ℕ
@@ -19,6 +23,11 @@ totalOf (r ∷ rs) = r .length + totalOf rs
 unfoldable pub spotOf : List Region → ℕ → ℕ → Spot
 spotOf [] base a = Nowhere
 spotOf (r ∷ rs) base a = pick (holdsOf r a) (At (base + (a - r .start)) (r .rights)) (spotOf rs (base + r .length) a)
+
+-- the place of a spot, 0 where there is none
+unfoldable pub placeIn : Spot → ℕ
+placeIn (At place rights) = place
+placeIn Nowhere = 0
 
 -- whether the octet at an address has a right: the regions are searched, and the one that has the octet decides
 unfoldable pub grantsOf : List Region → Right → ℕ → Bool
@@ -33,3 +42,7 @@ beforeOf rs w a (suc n) = pick (grantsOf rs w a) (suc (beforeOf rs w (suc a) n))
 -- whether all n octets from an address on have the right; with Mapped, whether the span lies wholly in regions
 abbrev pub spanHas : List Region → Right → ℕ → ℕ → Bool
 spanHas rs w a n = eqb (beforeOf rs w a n) n
+
+-- what the search for a right tells of n octets from an address on
+unfoldable pub reachOf : List Region → Right → ℕ → ℕ → Reach
+reachOf rs w a n = record { before = beforeOf rs w a n; place = pick (eqb (beforeOf rs w a n) 0) 0 (placeIn (spotOf rs 0 a)) }

@@ -7,36 +7,8 @@ ghost use Rattle.octets.specs.Pick.{pick};
 ghost use Rattle.regions.specs.Apart.{Laid};
 ghost use Rattle.regions.specs.Passed.{passedOf, deniesOf};
 ghost use Rattle.regions.specs.Region.{regionsOf};
-ghost use Rattle.regions.specs.Search.{spotOf, beforeOf, spanHas};
+ghost use Rattle.regions.specs.Search.{reachOf, spanHas};
 ghost use Rattle.regions.specs.declared.Right.the-variants.{Mapped};
-
-// Where an octet stands: at a memory place, with its region's rights, or in no region.
-pub enum Spot {
-    At(u64, u8),
-    Nowhere,
-}
-
-// The memory place and the rights of the octet at an address. Regions rise, so the first that ends behind the octet has it, or none has.
-pub fn spot_at(sheet: &[u8], regions: u8, address: u64) -> Spot
-    requires { ⌜ Laid (now sheet) regions ⌝ }
-    ensures { λ r. ⌜ r ≡ spotOf (regionsOf (now (sheet .entry)) regions) 0 address ⌝ }
-{
-    let last = 4 + 10 * (regions as usize);
-    let mut base: u64 = 0;
-    let mut place: usize = 4;
-    while place < last {
-        let region = crate::region_in(sheet, place);
-        if address < region.start as u64 + region.length as u64 {
-            if address < region.start as u64 {
-                return Spot::Nowhere;
-            }
-            return Spot::At(base + (address - region.start as u64), region.rights);
-        }
-        base = base + region.length as u64;
-        place += 10;
-    }
-    Spot::Nowhere
-}
 
 // How many regions, from the first on, end at or before an address.
 fn passed(sheet: &[u8], regions: u8, address: u64) -> u8
@@ -99,17 +71,26 @@ fn denies(region: Region, right: Right, address: u64) -> bool
     !crate::gives(region.rights, right)
 }
 
+// What the search for a right tells of a span: how many of its octets come before the first that lacks the right, and the memory place of its first octet,
+// 0 where that one lacks it.
+pub struct Reach {
+    pub before: u8,
+    pub place: u64,
+}
+
 // How many octets of a span come before the first that lacks the right: octets outside, one at a time, regions inside, left by the label. Regions rise,
 // so the end of the region that the last octet was found in stays at hand, and the search goes on behind it at the first octet that it does not have.
-pub fn before(sheet: &[u8], regions: u8, right: Right, address: u32, size: u8) -> u8
+// There is no gap between the octets found: in the memory the first is as far before the end of the regions passed as its address is before their last end.
+pub fn before(sheet: &[u8], regions: u8, right: Right, address: u32, size: u8) -> Reach
     requires { ⌜ Laid (now sheet) regions ⌝ }
-    ensures { λ r. ⌜ r ≡ beforeOf (regionsOf (now (sheet .entry)) regions) right address size ⌝ }
+    ensures { λ r. ⌜ r ≡ reachOf (regionsOf (now (sheet .entry)) regions) right address size ⌝ }
 {
     let first = address as u64;
     let stop = first + size as u64;
     let last = 4 + 10 * (regions as usize);
     let mut at = first;
     let mut end: u64 = 0;
+    let mut base: u64 = 0;
     let mut place: usize = 4;
     'octets: while at < stop {
         while end <= at {
@@ -121,11 +102,21 @@ pub fn before(sheet: &[u8], regions: u8, right: Right, address: u32, size: u8) -
                 break 'octets;
             }
             end = region.start as u64 + region.length as u64;
+            base = base + region.length as u64;
             place += 10;
         }
         at += 1;
     }
-    (at - first) as u8
+    if at == first {
+        return Reach {
+            before: 0,
+            place: 0,
+        };
+    }
+    Reach {
+        before: (at - first) as u8,
+        place: base + first - end,
+    }
 }
 
 // Whether every octet of a span has the right.
@@ -133,5 +124,5 @@ pub fn has(sheet: &[u8], regions: u8, right: Right, address: u32, size: u8) -> b
     requires { ⌜ Laid (now sheet) regions ⌝ }
     ensures { λ r. ⌜ r ≡ spanHas (regionsOf (now (sheet .entry)) regions) right address size ⌝ }
 {
-    before(sheet, regions, right, address, size) == size
+    before(sheet, regions, right, address, size).before == size
 }
