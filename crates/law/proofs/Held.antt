@@ -11,17 +11,16 @@ use lib.ListN.{length, getD, take, drop, length-append}
 use lib.Seq.{ext-getD, getD-drop}
 use Rattle.octets.specs.Parts.{part, putAt}
 use Rattle.octets.proofs.Cases.{decided, lt-or-le}
-use Rattle.octets.proofs.Pick.{pick-yes, pick-no}
+use Rattle.octets.proofs.Pick.{pick-yes, pick-no, pick-ne}
 use Rattle.law.specs.Words.{Every, From, InARow, Piece, piece, laid}
 use Rattle.law.specs.Sheet.{Region as Area, GoodRegion, room}
 use Rattle.law.specs.Memory.{Cell, cellsFrom, cells, stored, heldAt, held}
-use Rattle.machine.specs.Spans.{placeIn, spanPlace}
+use Rattle.machine.specs.Spans.{spanPlace}
 use Rattle.regions.specs.Apart.{Apart}
 use Rattle.regions.specs.Region.{holdsOf}
-use Rattle.regions.specs.Search.{spotOf, beforeOf, spanHas, totalOf}
+use Rattle.regions.specs.Search.{At, Nowhere, spotOf, placeIn, beforeOf, spanHas, totalOf}
 use Rattle.regions.specs.declared.Region.{Region}
 use Rattle.regions.specs.declared.Right.the-variants.{Mapped}
-use Rattle.regions.specs.declared.search.Spot.the-variants.{At, Nowhere}
 use Rattle.regions.proofs.Bounds.{holds-bounds}
 use Rattle.regions.proofs.Places.{Stands, mapped-spot, span-places, spot-inside}
 use Rattle.regions.proofs.Spans.{all-before}
@@ -136,13 +135,13 @@ apart-good [] g d = tt
 apart-good (r ∷ rs) g d = (omega arith, g .0 .least, apart-from r rs (g .1) d)
 
 -- the octets of a mapped span stand from the span's place on
-places-from : (rs : List Region) → Apart 0 rs → (a n : ℕ) → spanHas rs Mapped a n ≡ true → (j : ℕ) → j < n → Stands rs 0 (a + j) (spanPlace rs a + j)
+places-from : (rs : List Region) → Apart 0 rs → (a n : ℕ) → spanHas rs Mapped a n ≡ true → (j : ℕ) → j < n → Stands rs 0 (a + j) (spanPlace rs a n + j)
 unfolding placeIn
 places-from rs d a n h j l =
     let all : beforeOf rs Mapped a n ≡ n = eqb-true _ _ h in
     let spot = mapped-spot rs 0 a (all-before rs Mapped a n all a (le-refl a) (omega arith)) in
     let t = span-places 0 rs d 0 a (spot .0) n (spot .1) all j l in
-    let e : spot .0 ≡ spanPlace rs a = sym (ap placeIn (spot .1 .1)) in
+    let e : spot .0 ≡ spanPlace rs a n = sym (pick-ne _ _ (λ (z : n ≡ 0). let w : ⊥ = omega arith in w) ∙ ap placeIn (spot .1 .1)) in
     subst (λ (p : ℕ). Stands rs 0 (a + j) (p + j)) e t
 
 heldAt-is : (cs : List Cell) (m : List ℕ) (a i : ℕ) → i < length cs → addressOf cs i ≡ a → ((j : ℕ) → j < i → addressOf cs j ≡ a → ⊥) → heldAt cs m a ≡ getD m i 0
@@ -198,7 +197,7 @@ put-none m at (x ∷ xs) e = absurd (let w : ⊥ = omega arith in w)
 module _ (rs : List Area) (apart : Apart' 0 rs) (m : List ℕ) (whole : length m ≡ length (cells rs)) (a n : ℕ)
     (mapped : spanHas (map asRegion rs) Mapped a n ≡ true) where
   abbrev place : ℕ
-  place = spanPlace (map asRegion rs) a
+  place = spanPlace (map asRegion rs) a n
 
   total : length (cells rs) ≡ totalOf (map asRegion rs)
   total = length-cells rs ∙ room-total rs

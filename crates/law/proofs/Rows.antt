@@ -148,24 +148,24 @@ module _ (h : Sheet) (sheet : List ℕ) (st : LinkState) (m c : List ℕ) where
       sent n = ap (λ (k : ℕ). take n (drop k c)) (p .begins)
 
       moved-body : (writes : Bool) (a n : ℕ) → hasAll mapped (cells (h .regions)) a n ≡ true → (k old : ℕ)
-          → bodyAt (moved writes by (spanPlace (map asRegion (h .regions)) a) n) sheet m c k old
+          → bodyAt (moved writes by (spanPlace (map asRegion (h .regions)) a n) n) sheet m c k old
           ≡ laid (echo ∷ dataPiece writes from (cells (h .regions)) m c a n ∷ []) k old
       unfolding moved
       moved-body false a n q k old =
-          reads-at sheet m c k old by (spanPlace (map asRegion (h .regions)) a) n
+          reads-at sheet m c k old by (spanPlace (map asRegion (h .regions)) a n) n
           ∙ ap (λ (x : List ℕ). carriedAt by x c k old) (world .reads a n q) ∙ p .lies (held (cells (h .regions)) m a n) k old
       moved-body true a n q k old =
-          writes-at sheet m c k old by (spanPlace (map asRegion (h .regions)) a) n
+          writes-at sheet m c k old by (spanPlace (map asRegion (h .regions)) a n) n
           ∙ ap (λ (x : List ℕ). carriedAt by x c k old) (sent n) ∙ p .lies (take n (drop from c)) k old
 
       moved-memory : (writes : Bool) (a n : ℕ) → dataFrom by + n ≤ h .l → hasAll mapped (cells (h .regions)) a n ≡ true
-          → memoryAfter (moved writes by (spanPlace (map asRegion (h .regions)) a) n) c m ≡ stored (written writes from c a n) (cells (h .regions)) m
+          → memoryAfter (moved writes by (spanPlace (map asRegion (h .regions)) a n) n) c m ≡ stored (written writes from c a n) (cells (h .regions)) m
       unfolding moved
-      moved-memory false a n l q = reads-keep c m by (spanPlace (map asRegion (h .regions)) a) n ∙ unmoved
+      moved-memory false a n l q = reads-keep c m by (spanPlace (map asRegion (h .regions)) a n) n ∙ unmoved
       moved-memory true a n l q =
           let e = p .begins in
-          writes-store c m by (spanPlace (map asRegion (h .regions)) a) n
-          ∙ ap (putAt m (spanPlace (map asRegion (h .regions)) a)) (sent n)
+          writes-store c m by (spanPlace (map asRegion (h .regions)) a n) n
+          ∙ ap (putAt m (spanPlace (map asRegion (h .regions)) a n)) (sent n)
           ∙ world .writes a n (take n (drop from c)) q (simp (length-take, length-drop) (omega arith))
 
       granted-row : (writes : Bool) (right : ℕ → Bool) (a n : ℕ) → ((x : ℕ) → right x ≡ givesOf x (rightOf writes (st .link))) → dataFrom by + n ≤ h .l
@@ -179,7 +179,7 @@ module _ (h : Sheet) (sheet : List ℕ) (st : LinkState) (m c : List ℕ) where
           let rs = map asRegion (h .regions) in
           step _ _ 10 (ap not (sym (all-span right w same (h .regions) a n))) (λ t.
           let q = all-span mapped Mapped mapped-is (h .regions) a n ∙ span-mapped rs w a n (sym (all-span right w same (h .regions) a n) ∙ t) in
-          doing (moved writes by (spanPlace rs a) n) st kept (moved-body writes a n q) (moved-memory writes a n l q))
+          doing (moved writes by (spanPlace rs a n) n) st kept (moved-body writes a n q) (moved-memory writes a n l q))
 
       span-row : (writes : Bool) (right : ℕ → Bool) (a n : ℕ) → ((x : ℕ) → right x ≡ givesOf x (rightOf writes (st .link))) → dataFrom by + n ≤ h .l
           → (x : ℕ) (ns : List ℕ) (ks : List Check)

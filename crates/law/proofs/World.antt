@@ -51,9 +51,9 @@ pub record World (h : Sheet) (sheet m : List ℕ) : Type 0 where
   pub items : (n : ℕ) → ItemSame (itemsOf sheet (length (h .regions)) (length (h .parameters)) (length (h .items))) (h .items) sheet n
   pub long : 8 ≤ h .l
   pub whole : length m ≡ length (cells (h .regions))
-  pub reads : (a n : ℕ) → hasAll mapped (cells (h .regions)) a n ≡ true → part m (spanPlace (map asRegion (h .regions)) a) n ≡ held (cells (h .regions)) m a n
+  pub reads : (a n : ℕ) → hasAll mapped (cells (h .regions)) a n ≡ true → part m (spanPlace (map asRegion (h .regions)) a n) n ≡ held (cells (h .regions)) m a n
   pub writes : (a n : ℕ) (o : List ℕ) → hasAll mapped (cells (h .regions)) a n ≡ true → length o ≡ n
-      → putAt m (spanPlace (map asRegion (h .regions)) a) o ≡ stored (piece a o ∷ []) (cells (h .regions)) m
+      → putAt m (spanPlace (map asRegion (h .regions)) a n) o ≡ stored (piece a o ∷ []) (cells (h .regions)) m
 
 pub mapped-is : (x : ℕ) → mapped x ≡ givesOf x Mapped
 unfolding givesOf

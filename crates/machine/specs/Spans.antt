@@ -5,12 +5,10 @@ use mathlib.Core.List.{List}
 use lib.Dec.{eqb}
 use Rattle.octets.specs.Pick.{pick}
 use Rattle.link.specs.declared.state.LinkState.{LinkState}
-use Rattle.regions.specs.Search.{spotOf, spanHas}
+use Rattle.regions.specs.Search.{spotOf, placeIn, spanHas}
 use Rattle.regions.specs.declared.Region.{Region}
 use Rattle.regions.specs.declared.Right.{Right}
 use Rattle.regions.specs.declared.Right.the-variants.{Mapped, Read, WriteAsync, WriteSync}
-use Rattle.regions.specs.declared.search.Spot.{Spot}
-use Rattle.regions.specs.declared.search.Spot.the-variants.{At, Nowhere}
 use Rattle.machine.specs.declared.words.Carrier.{Carrier}
 use Rattle.machine.specs.declared.words.Effect.{Effect}
 use Rattle.machine.specs.declared.words.Effect.the-variants.{Reads, Writes}
@@ -27,20 +25,15 @@ unfoldable pub moved : Bool → Carrier → ℕ → ℕ → Effect
 moved false by place n = Reads by place n
 moved true by place n = Writes by place n
 
--- the place of a span in the memory is that of its first octet
-unfoldable pub placeIn : Spot → ℕ
-placeIn (At place rights) = place
-placeIn Nowhere = 0
-
--- the place of the octet at an address, among these regions
-abbrev pub spanPlace : List Region → ℕ → ℕ
-spanPlace rs a = placeIn (spotOf rs 0 a)
+-- the place of a span in the memory is that of its first octet; an empty span has none
+abbrev pub spanPlace : List Region → ℕ → ℕ → ℕ
+spanPlace rs a n = pick (eqb n 0) 0 (placeIn (spotOf rs 0 a))
 
 -- n octets from address a on are asked to be read, or to be written: check 5, all there is to a parameter's span, since request 8
 unfoldable pub grantedOf : Bool → List Region → Carrier → ℕ → ℕ → LinkState → Judgement
 grantedOf writes rs by a n st =
     pick (not (spanHas rs (rightOf writes (st .link)) a n)) (Refused 10)
-    (Accepted (moved writes by (spanPlace rs a) n) st)
+    (Accepted (moved writes by (spanPlace rs a n) n) st)
 
 -- and before it check 4, of a memory command's span
 unfoldable pub spanOf : Bool → List Region → Carrier → ℕ → ℕ → LinkState → Judgement

@@ -6,22 +6,10 @@ use crate::words::Effect;
 use crate::words::Judgement;
 use link::state::LinkState;
 use regions::Right;
-use regions::search::Spot;
 ghost use mathlib.Core.Path.{_≡_};
 ghost use Rattle.regions.specs.Apart.{Laid};
 ghost use Rattle.regions.specs.Region.{regionsOf};
-ghost use Rattle.machine.specs.Spans.{rightOf, moved, spanPlace, grantedOf, spanOf};
-
-// The memory place of a span's first octet; 0 where no region has it.
-fn place_of(sheet: &[u8], regions: u8, address: u32) -> u64
-    requires { ⌜ Laid (now sheet) regions ⌝ }
-    ensures { λ r. ⌜ r ≡ spanPlace (regionsOf (now (sheet .entry)) regions) address ⌝ }
-{
-    match regions::search::spot_at(sheet, regions, address as u64) {
-        Spot::At(place, _) => place,
-        Spot::Nowhere => 0,
-    }
-}
+ghost use Rattle.machine.specs.Spans.{rightOf, moved, grantedOf, spanOf};
 
 // The right that a read or a write asks in a link.
 fn right_of(writes: bool, link: u8) -> Right
@@ -59,11 +47,9 @@ pub fn granted(
     requires { ⌜ Laid (now sheet) regions ⌝ }
     ensures { λ r. ⌜ r ≡ grantedOf writes (regionsOf (now (sheet .entry)) regions) by address size st ⌝ }
 {
-    if regions::search::has(sheet, regions, right_of(writes, st.link), address, size) {
-        return Judgement::Accepted(
-            moves(writes, by, place_of(sheet, regions, address), size),
-            st,
-        );
+    let reach = regions::search::before(sheet, regions, right_of(writes, st.link), address, size);
+    if reach.before == size {
+        return Judgement::Accepted(moves(writes, by, reach.place, size), st);
     }
     Judgement::Refused(NO_RIGHT)
 }

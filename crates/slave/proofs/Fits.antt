@@ -7,14 +7,14 @@ use native.Mathlib.Nat.{le-refl}
 use native.Mathlib.Omega.{arith}
 use borrow.Author.Tests.{ltb-false, eqb-true, eqb-false, not-false}
 use lib.ListN.{length}
-use Rattle.octets.proofs.Pick.{pick-both, pick-cases}
+use Rattle.octets.proofs.Pick.{pick-ne, pick-both, pick-cases}
 use Rattle.frame.specs.Body.{dataFrom, Fitting}
 use Rattle.frame.proofs.Rooms.{parameter-room, memory-room, quiet-fits, reads-fit, writes-fit, identifies-fit, alarms-fit, connects-fit}
 use Rattle.link.specs.declared.state.LinkState.{LinkState}
 use Rattle.machine.specs.Connecting.{connectOf}
 use Rattle.machine.specs.Judging.{parameterData, parameterOf, itemData, itemOf, alarmsOf, clearOf, elementOf, memoryOf, dataOf, judgeOf}
 use Rattle.machine.specs.Outcomes.{finished, outcomeOf}
-use Rattle.machine.specs.Spans.{rightOf, moved, spanPlace, placeIn, grantedOf, spanOf}
+use Rattle.machine.specs.Spans.{rightOf, moved, spanPlace, grantedOf, spanOf}
 use Rattle.machine.specs.declared.words.Carrier.{Carrier}
 use Rattle.machine.specs.declared.words.Carrier.the-variants.{Parameter as ByParameter, Memory as ByMemory}
 use Rattle.machine.specs.declared.words.Command.{Command}
@@ -23,7 +23,7 @@ use Rattle.machine.specs.declared.words.Judgement.{Judgement}
 use Rattle.machine.specs.declared.words.Judgement.the-variants.{Refused, Accepted}
 use Rattle.machine.specs.declared.words.Outcome.{Outcome}
 use Rattle.regions.specs.Region.{regionsOf}
-use Rattle.regions.specs.Search.{beforeOf, spanHas}
+use Rattle.regions.specs.Search.{placeIn, beforeOf, spanHas}
 use Rattle.regions.specs.declared.Right.the-variants.{Mapped}
 use Rattle.regions.proofs.Places.{mapped-spot, span-inside}
 use Rattle.regions.proofs.Spans.{all-before, span-mapped}
@@ -49,14 +49,14 @@ module _ (s : List ℕ) (lay : Layout) (ok : ValidSheet s lay) (st : LinkState) 
   quiet = quiet-fits (lay .l) (lay .memory) (length s)
 
   -- a span that is wholly mapped stands inside the memory
-  span-room : (a n : ℕ) → 1 ≤ n → spanHas (regionsOf s (lay .regions)) Mapped a n ≡ true → spanPlace (regionsOf s (lay .regions)) a + n ≤ lay .memory
+  span-room : (a n : ℕ) → 1 ≤ n → spanHas (regionsOf s (lay .regions)) Mapped a n ≡ true → spanPlace (regionsOf s (lay .regions)) a n + n ≤ lay .memory
   unfolding placeIn
   span-room a n one h =
       let rs = regionsOf s (lay .regions) in
       let all : beforeOf rs Mapped a n ≡ n = eqb-true _ _ h in
       let spot = mapped-spot rs 0 a (all-before rs Mapped a n all a (le-refl a) (omega arith)) in
       let inside = span-inside 0 rs (valid-apart s lay ok) 0 a (spot .0) n (spot .1) all one in
-      let place : spanPlace rs a ≡ spot .0 = ap placeIn (spot .1 .1) in
+      let place : spanPlace rs a n ≡ spot .0 = pick-ne _ _ (λ (z : n ≡ 0). let w : ⊥ = omega arith in w) ∙ ap placeIn (spot .1 .1) in
       let sum = ok .sound .memory-sum in
       omega arith
 
@@ -68,7 +68,7 @@ module _ (s : List ℕ) (lay : Layout) (ok : ValidSheet s lay) (st : LinkState) 
       let rs = regionsOf s (lay .regions) in
       pick-cases (λ (j : Judgement). Fit j (lay .l) (lay .memory) (length s)) _ (λ u. tt)
       (λ u.
-      moved-fits writes by (spanPlace rs a) n (lay .l) (lay .memory) (length s) room
+      moved-fits writes by (spanPlace rs a n) n (lay .l) (lay .memory) (length s) room
       (span-room a n one (span-mapped rs (rightOf writes (st .link)) a n (not-false _ u))))
 
   span-fits : (writes : Bool) (by : Carrier) (a n : ℕ) → 1 ≤ n → dataFrom by + n ≤ lay .l

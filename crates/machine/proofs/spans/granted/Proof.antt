@@ -1,35 +1,43 @@
--- `machine::spans::granted` meets its contract: the right over the span.
+-- `machine::spans::granted` meets its contract: the right over the span, and the place that its search tells.
 use Prim.Native.Nat.{ℕ}
 use mathlib.Core.Bool.{not}
-use mathlib.Core.Path.{sym, ap, _∙_}
+use mathlib.Core.Path.{_≡_, sym, ap, _∙_}
 use borrow.Author.Needs.{needs}
+use borrow.Author.Tests.{eq-eqb, ne-eqb}
+use lib.Dec.{eqb}
+use Rattle.octets.specs.Pick.{pick}
 use Rattle.octets.proofs.Pick.{pick-yes, pick-no}
 use Rattle.regions.specs.Region.{regionsOf}
-use Rattle.regions.specs.Search.{spanHas}
+use Rattle.regions.specs.Search.{spotOf, placeIn, beforeOf, reachOf}
 use Rattle.regions.specs.declared.Right.{Right}
-use Rattle.machine.specs.Spans.{moved, grantedOf}
+use Rattle.regions.specs.declared.search.Reach.{Reach}
+use Rattle.machine.specs.Spans.{rightOf, moved, spanPlace, grantedOf}
 use Rattle.machine.specs.declared.words.Effect.{Effect}
 use Rattle.machine.specs.declared.words.Judgement.the-variants.{Accepted}
 use Rattle.machine.proofs.spans.granted.Statement.{statement}
 use Rattle.machine.proofs.spans.granted.Tie as tie
 
 returns : tie.Need-returns
-unfolding grantedOf
+unfolding grantedOf reachOf
 returns c =
     let a = c .before .before .before .before .before .before .args in
     let rs = regionsOf (a .sheet .now) (a .regions) in
-    let e = c .before .before .before .has .ensures ∙ ap (λ (w : Right). spanHas rs w (a .address) (a .size)) (c .before .before .before .before .right-of .ensures) in
-    let m = c .moves .ensures ∙ ap (λ (p : ℕ). moved (a .writes) (a .by) p (a .size)) (c .before .place-of .ensures) in
-    ap (λ (x : Effect). Accepted x (a .st)) m ∙ sym (pick-no _ _ (ap not (sym e ∙ c .before .before .if1 .taken)))
+    let found = c .before .before .before .before2 in
+    let e = found .ensures ∙ ap (λ (w : Right). reachOf rs w (a .address) (a .size)) (c .before .before .before .before .right-of .ensures) in
+    let all : beforeOf rs (rightOf (a .writes) (a .st .link)) (a .address) (a .size) ≡ a .size = sym (ap (λ (r : Reach). r .before) e) ∙ c .before .if1 .taken in
+    let place : found .result .place ≡ spanPlace rs (a .address) (a .size) =
+    ap (λ (r : Reach). r .place) e ∙ ap (λ (b : ℕ). pick (eqb b 0) 0 (placeIn (spotOf rs 0 (a .address)))) all in
+    let m = c .moves .ensures ∙ ap (λ (p : ℕ). moved (a .writes) (a .by) p (a .size)) place in
+    ap (λ (x : Effect). Accepted x (a .st)) m ∙ sym (pick-no _ _ (ap not (eq-eqb _ _ all)))
 
 returns-2 : tie.Need-returns-2
-unfolding grantedOf
+unfolding grantedOf reachOf
 returns-2 c =
-    let a = c .before .before .before .before .args in
+    let a = c .before .before .before .before .before .args in
     let rs = regionsOf (a .sheet .now) (a .regions) in
-    let e = c .before .has .ensures ∙ ap (λ (w : Right). spanHas rs w (a .address) (a .size)) (c .before .before .right-of .ensures) in
-    sym (pick-yes _ _ (ap not (sym e ∙ c .if1 .left)))
+    let e = c .before .before .before2 .ensures ∙ ap (λ (w : Right). reachOf rs w (a .address) (a .size)) (c .before .before .before .right-of .ensures) in
+    sym (pick-yes _ _ (ap not (ne-eqb _ _ (λ all. c .if1 .left (ap (λ (r : Reach). r .before) e ∙ all)))))
 
 pub granted-spec : {M : Type 1} → statement M
 granted-spec =
-    tie.close (tie.spec (λ c κs. search needs) (λ c κs. search needs) (λ c κs. search needs) (λ c κs. search needs) returns returns-2)
+    tie.close (tie.spec (λ c κs. search needs) (λ c κs. search needs) (λ c κs. search needs) returns returns-2)

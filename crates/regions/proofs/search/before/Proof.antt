@@ -196,7 +196,7 @@ add-t24 c =
     omega (arith, k .within, k .placed .small)
 
 sub-t25 : tie.Need-sub-t25 Inv-loop μ-loop Inv-octets μ-octets
-sub-t25 c = passed-one c .0
+sub-t25 c = omega (arith, passed-one c .0)
 
 returns-2 : tie.Need-returns-2 Inv-loop μ-loop Inv-octets μ-octets
 returns-2 c =
