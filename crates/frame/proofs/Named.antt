@@ -1,11 +1,12 @@
--- A command's fields, each by the octets where it stands.
+-- A command's fields, each by the octets where it stands, and the place that a refusal about it tells.
 use mathlib.Core.Path.{_≡_, refl}
 use mathlib.Core.List.{List}
 use Prim.Native.Nat.{ℕ, _/_}
 use lib.ListN.{getD}
 use Rattle.octets.specs.Numbers.{le2At, le4At}
 use Rattle.machine.specs.declared.words.Command.{Command}
-use Rattle.frame.specs.Fields.{commandOf}
+use Rattle.machine.specs.declared.words.Field.the-variants.{Whole, Number, Size, Item, Count, Mode, Address, Version, ComMod, ComTime, Profile, Span}
+use Rattle.frame.specs.Fields.{placeOf, commandOf}
 
 -- a code, and the other fields of a command
 abbrev pub named : ℕ → List ℕ → Command
@@ -27,5 +28,53 @@ named code c = record {
 }
 
 pub command-named : (c : List ℕ) → commandOf c ≡ named (getD c 0 0) c
-unfolding commandOf
+unfolding commandOf placeOf
 command-named c = refl
+
+pub whole-at : placeOf Whole ≡ 0
+unfolding placeOf
+whole-at = refl
+
+pub number-at : placeOf Number ≡ 4
+unfolding placeOf
+number-at = refl
+
+pub size-at : placeOf Size ≡ 6
+unfolding placeOf
+size-at = refl
+
+pub item-at : placeOf Item ≡ 4
+unfolding placeOf
+item-at = refl
+
+pub count-at : placeOf Count ≡ 6
+unfolding placeOf
+count-at = refl
+
+pub mode-at : placeOf Mode ≡ 5
+unfolding placeOf
+mode-at = refl
+
+pub address-at : placeOf Address ≡ 8
+unfolding placeOf
+address-at = refl
+
+pub version-at : placeOf Version ≡ 4
+unfolding placeOf
+version-at = refl
+
+pub com-mod-at : placeOf ComMod ≡ 5
+unfolding placeOf
+com-mod-at = refl
+
+pub com-time-at : placeOf ComTime ≡ 6
+unfolding placeOf
+com-time-at = refl
+
+pub profile-at : placeOf Profile ≡ 7
+unfolding placeOf
+profile-at = refl
+
+pub span-at : (before : ℕ) → placeOf (Span before) ≡ before
+unfolding placeOf
+span-at before = refl

@@ -1,4 +1,4 @@
--- "What each call tells", for a good sheet. A refusal leaves state, memory and reply as they were, and of document 01's numbers "Place is 0 except for 11 to
+-- "What each call tells", for a good sheet. A refusal leaves state, memory and reply as they were, and of document 01's refusals "Place is 0 except for 11 to
 -- 17". "That the buffers are distinct is the host's duty": here they are lists of their own.
 use Prim.Native.Nat.{ℕ, _+_, _*_}
 use mathlib.Core.Bool.{not}
@@ -43,10 +43,11 @@ enable h s =
     (when (not (eqb (link s) 0)) (result 6 0 s [] [])
     (result 0 0 (over (piece 1 (1 ∷ []) ∷ []) s) [] []))
 
--- an exchange with none of the refusals below, whose command may still get an alarm: the fate of its command, done
+-- an exchange with none of the refusals below, whose command may still get an alarm: the fate of its command, done. Request 3: "The exchange's place, so
+-- far 0 for a built reply, shall be the first octet of the field that failed"
 abbrev pub done : Sheet → List ℕ → List ℕ → List ℕ → Fate → Result
 done h s m c f =
-    result 0 0 (stateAfter s (mn c) (f .changes)) (stored (f .stores) (cells (h .regions)) m)
+    result 0 (f .place) (stateAfter s (mn c) (f .changes)) (stored (f .stores) (cells (h .regions)) m)
     (replyFor h c (f .alarm) (stateAfter s (mn c) (f .changes)) (f .body))
 
 -- "1: state record ..", "2: memory length not the sum of the regions", "3: command length not L", "4: reply length not L", "5: exchange while Disabled"; of

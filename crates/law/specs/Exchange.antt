@@ -19,35 +19,36 @@ mn c = octet c 1 % 16
 abbrev pub identity : List ℕ → ℕ
 identity c = octet c 2 / 64 % 4
 
--- what becomes of a command: its alarm, 0 if accepted; what changes in the state record; the body; what is stored
+-- what becomes of a command: its alarm, 0 if accepted; the place of what was wrong; what changes in the state record; the body; what is stored
 pub record Fate : Type 0 where
   pub alarm : ℕ
+  pub place : ℕ
   pub changes : List Piece
   pub body : List Piece
   pub stores : List Piece
 
-abbrev pub fate : ℕ → List Piece → List Piece → List Piece → Fate
-fate alarm changes body stores = record { alarm = alarm; changes = changes; body = body; stores = stores }
+abbrev pub fate : ℕ → ℕ → List Piece → List Piece → List Piece → Fate
+fate alarm place changes body stores = record { alarm = alarm; place = place; changes = changes; body = body; stores = stores }
 
 -- "each of the last four stores its alarm in the command latch if that is 0"; "A refused command has a zero body."
-unfoldable pub refused : List ℕ → ℕ → Fate
-refused s alarm = fate alarm (when (eqb (commandLatch s) 0) (piece 8 (alarm ∷ []) ∷ []) []) [] []
+unfoldable pub refused : List ℕ → ℕ → ℕ → Fate
+refused s alarm place = fate alarm place (when (eqb (commandLatch s) 0) (piece 8 (alarm ∷ []) ∷ []) []) [] []
 
--- the first check that fails decides; where none does, the row is done
+-- the first check that fails decides alarm and place; where none does, the row is done, and the place is 0
 unfoldable pub checked : List ℕ → List Check → Row → Fate
-checked s [] r = fate 0 (r .changes) (r .body) (r .stores)
-checked s (k ∷ ks) r = when (k .holds) (checked s ks r) (refused s (k .alarm))
+checked s [] r = fate 0 0 (r .changes) (r .body) (r .stores)
+checked s (k ∷ ks) r = when (k .holds) (checked s ks r) (refused s (k .alarm) (k .place))
 
 -- "2. Unknown code: alarm 8. 3. Code not allowed in this link: alarm 12." Then "4. Data: alarm 9. 5. Rights over the whole span: alarm 10", as the row
--- has them
+-- has them. Request 3: "Alarms 8 and 12 and a failed watchdog have place 0."
 unfoldable pub judged : List ℕ → ℕ → List Row → Fate
-judged s code [] = refused s 8
+judged s code [] = refused s 8 0
 judged s code (r ∷ rs) = when (eqb code (r .code)) (checked s (check (oneOf (link s) (r .links)) 12 0 ∷ r .checks) r) (judged s code rs)
 
 -- "1. Link 3 with MN known: MN must be last MN plus 1, modulo 16. If not, nothing is executed, the body is zero, the communication latch becomes 12, the
 -- command alarm is 0, the link becomes 2."
 abbrev pub lost : Fate
-lost = fate 0 (piece 1 (2 ∷ []) ∷ piece 9 (12 ∷ []) ∷ []) [] []
+lost = fate 0 0 (piece 1 (2 ∷ []) ∷ piece 9 (12 ∷ []) ∷ []) [] []
 
 abbrev pub missed : List ℕ → List ℕ → Bool
 missed s c = eqb (link s) 3 && (eqb (mnKnown s) 1 && not (eqb (mn c) ((lastMn s + 1) % 16)))

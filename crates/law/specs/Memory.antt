@@ -43,6 +43,11 @@ unfoldable pub hasAll : (ℕ → Bool) → List Cell → ℕ → ℕ → Bool
 hasAll asked cs a zero = true
 hasAll asked cs a (suc n) = has asked cs a && hasAll asked cs (suc a) n
 
+-- how many of n octets from an address on come before the first that lacks what is asked; n where none lacks it
+unfoldable pub hasBefore : (ℕ → Bool) → List Cell → ℕ → ℕ → ℕ
+hasBefore asked cs a zero = 0
+hasBefore asked cs a (suc n) = when (has asked cs a) (suc (hasBefore asked cs (suc a) n)) 0
+
 -- the octet of memory at an address, and n octets from an address on
 unfoldable pub heldAt : List Cell → List ℕ → ℕ → ℕ
 heldAt [] ms a = 0

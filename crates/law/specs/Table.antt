@@ -7,17 +7,17 @@ use lib.ListN.{take, drop}
 use Rattle.law.specs.Words.{when, implies, oneOf, numberAt, octet, bit, Piece, piece}
 use Rattle.law.specs.Sheet.{Parameter, Item, Sheet}
 use Rattle.law.specs.State.{link, commandLatch, communicationLatch}
-use Rattle.law.specs.Memory.{cells, mapped, readable, writable, hasAll, held}
+use Rattle.law.specs.Memory.{Cell, cells, mapped, readable, writable, hasAll, hasBefore, held}
 
--- a check: whether it holds, its alarm, and for alarms 8, 9 and 12 the octet of the command at which its field begins, 0 where no field is at fault; the
--- octet is for request 3, and nothing asks it yet
+-- a check: whether it holds, its alarm, and the place that is told where it is the first that does not hold. Request 3: "the first octet of the field that
+-- failed, in document 01's order", 0 where no field is at fault; "For alarm 10 it is how many octets of the span come before the first that lacks the right"
 pub record Check : Type 0 where
   pub holds : Bool
   pub alarm : ℕ
-  pub field : ℕ
+  pub place : ℕ
 
 abbrev pub check : Bool → ℕ → ℕ → Check
-check holds alarm field = record { holds = holds; alarm = alarm; field = field }
+check holds alarm place = record { holds = holds; alarm = alarm; place = place }
 
 -- a row: the code, the links that allow it, its checks in order; if all hold, what changes in the state record, what the body has, what is stored
 pub record Row : Type 0 where
@@ -43,6 +43,10 @@ itemOf (i ∷ is) n = when (eqb (i .code) n) i (itemOf is n)
 -- the command's octets from one to another, again
 abbrev pub again : List ℕ → ℕ → ℕ → Piece
 again c from to = piece from (take (to + 1 - from) (drop from c))
+
+-- "Rights over the whole span: alarm 10", of n octets from an address on
+abbrev pub rightsCheck : (ℕ → Bool) → List Cell → ℕ → ℕ → Check
+rightsCheck right cs a n = check (hasAll right cs a n) 10 (hasBefore right cs a n)
 
 -- octet 5 of the memory commands: elements of 1, 2 or 4 octets, 0 where it is none of these. Document 01 has 1 in the high half and 1, 2 or 3 in the low
 -- half, but "002 decides" (4.3.3.13, 4.3.3.14, 5.2.3): it fills the low half with data_type, described as the kind of memory (1 volatile), and the high half
@@ -70,7 +74,7 @@ module _ (h : Sheet) (s m c : List ℕ) where
       check (oneOf number (map (λ (p : Parameter). p .number) (h .parameters))) 9 4
       ∷ check (eqb (octet c 6) (parameter .size)) 9 6
       ∷ check (leb (octet c 6) (h .l - 8)) 9 6
-      ∷ check (hasAll right (cells (h .regions)) (parameter .address) (parameter .size)) 10 0
+      ∷ rightsCheck right (cells (h .regions)) (parameter .address) (parameter .size)
       ∷ []
 
   abbrev pub item : Item
@@ -95,7 +99,7 @@ module _ (h : Sheet) (s m c : List ℕ) where
       ∷ check (leb 1 n) 9 6
       ∷ check (leb n (h .l - 12)) 9 6
       ∷ check (hasAll mapped (cells (h .regions)) address n) 9 8
-      ∷ check (hasAll right (cells (h .regions)) address n) 10 0
+      ∷ rightsCheck right (cells (h .regions)) address n
       ∷ []
 
   -- "Disconnected allows NOP, CONNECT, DISCONNECT. CONNECT is allowed nowhere else. SYNC_SET needs link 2. All others are allowed in links 2 and 3."

@@ -16,6 +16,7 @@ use Rattle.machine.specs.Judging.{parameterData, parameterOf, itemData, 
 use Rattle.machine.specs.Outcomes.{comesTo, finished, outcomeOf}
 use Rattle.machine.specs.declared.words.Command.{Command}
 use Rattle.machine.specs.declared.words.Effect.the-variants.{Quiet}
+use Rattle.machine.specs.declared.words.Field.the-variants.{Whole}
 use Rattle.machine.specs.declared.words.Judgement.{Judgement}
 use Rattle.machine.specs.declared.words.Judgement.the-variants.{Refused, Accepted}
 
@@ -51,7 +52,7 @@ module _ (s : List ℕ) (lay : Layout) (st : LinkState) (c : Command) (i : ℕ) 
 
   finished-alike : (j : Judgement) → finished st c j ≡ finished st (identified c i) j
   unfolding finished
-  finished-alike (Refused alarm) = refl
+  finished-alike (Refused alarm field) = refl
   finished-alike (Accepted effect next) = refl
 
   prm : (writes : Bool) → parameterOf writes s lay st c ≡ parameterOf writes s lay st (identified c i)
@@ -73,5 +74,5 @@ module _ (s : List ℕ) (lay : Layout) (st : LinkState) (c : Command) (i : ℕ) 
   pub outcome-alike : outcomeOf s lay st c ≡ outcomeOf s lay st (identified c i)
   unfolding outcomeOf
   outcome-alike =
-      ap (pick (eqb (st .link) 3 && not (followsOf (st .watch) (c .wdt))) (comesTo 0 Quiet (lost st)))
+      ap (pick (eqb (st .link) 3 && not (followsOf (st .watch) (c .wdt))) (comesTo 0 Whole Quiet (lost st)))
       (finished-alike (judgeOf s lay st c) ∙ ap (finished st (identified c i)) judge-alike)

@@ -18,16 +18,17 @@ use Rattle.machine.specs.Spans.{grantedOf, spanOf}
 use Rattle.machine.specs.declared.words.Carrier.the-variants.{Parameter as ByParameter, Memory as ByMemory}
 use Rattle.machine.specs.declared.words.Command.{Command}
 use Rattle.machine.specs.declared.words.Effect.the-variants.{Quiet, Identifies, Alarms}
+use Rattle.machine.specs.declared.words.Field.the-variants.{Whole, Number, Size, Item, Count, Mode}
 use Rattle.machine.specs.declared.words.Judgement.{Judgement}
 use Rattle.machine.specs.declared.words.Judgement.the-variants.{Refused, Accepted}
 
 -- 01 PRM_RD, 02 PRM_WR (which writes): "4-5 number in sheet; 6 size equal to its size and at most L - 8"; request 8: fault 17 ensures that the
 -- span is mapped, and it is not asked
 unfoldable pub parameterData : Bool → List Region → Layout → LinkState → Command → SoughtParameter → Judgement
-parameterData writes rs lay st c SoughtParameter.Missing = Refused 9
+parameterData writes rs lay st c SoughtParameter.Missing = Refused 9 Number
 parameterData writes rs lay st c (SoughtParameter.Found p) =
-    pick (not (eqb (c .size) (p .size))) (Refused 9)
-    (pick (ltb (lay .l - 8) (c .size)) (Refused 9)
+    pick (not (eqb (c .size) (p .size))) (Refused 9 Size)
+    (pick (ltb (lay .l - 8) (c .size)) (Refused 9 Size)
     (grantedOf writes rs ByParameter (p .address) (p .size) st))
 
 unfoldable pub parameterOf : Bool → List ℕ → Layout → LinkState → Command → Judgement
@@ -36,11 +37,11 @@ parameterOf writes s lay st c =
 
 -- 03 ID_RD: "4 code in sheet; 5 offset; 6-7 size at least 1, offset + size within the item, size at most L - 8"
 unfoldable pub itemData : Layout → LinkState → Command → SoughtItem → Judgement
-itemData lay st c SoughtItem.Missing = Refused 9
+itemData lay st c SoughtItem.Missing = Refused 9 Item
 itemData lay st c (SoughtItem.Found i) =
-    pick (eqb (c .count) 0) (Refused 9)
-    (pick (ltb (i .length) (c .offset + c .count)) (Refused 9)
-    (pick (ltb (lay .l - 8) (c .count)) (Refused 9)
+    pick (eqb (c .count) 0) (Refused 9 Count)
+    (pick (ltb (i .length) (c .offset + c .count)) (Refused 9 Count)
+    (pick (ltb (lay .l - 8) (c .count)) (Refused 9 Count)
     (Accepted (Identifies (i .at + c .offset) (c .count)) st)))
 
 unfoldable pub itemOf : List ℕ → Layout → LinkState → Command → Judgement
@@ -49,13 +50,13 @@ itemOf s lay st c = itemData lay st c (soughtItem (itemsOf s (lay .regions) (lay
 -- 05 ALM_RD: "L at least 16; 4-5 zero"; the latches as they were
 unfoldable pub alarmsOf : Layout → LinkState → Command → Judgement
 alarmsOf lay st c =
-    pick (ltb (lay .l) 16) (Refused 9)
-    (pick (not (eqb (c .number) 0)) (Refused 9)
+    pick (ltb (lay .l) 16) (Refused 9 Whole)
+    (pick (not (eqb (c .number) 0)) (Refused 9 Number)
     (Accepted (Alarms (st .latches .command) (st .latches .communication)) st))
 
 -- 06 ALM_CLR: "4-5 zero"; "both latches 0"
 unfoldable pub clearOf : LinkState → Command → Judgement
-clearOf st c = pick (not (eqb (c .number) 0)) (Refused 9) (Accepted Quiet (cleared st))
+clearOf st c = pick (not (eqb (c .number) 0)) (Refused 9 Number) (Accepted Quiet (cleared st))
 
 -- octet 5 of the memory commands: by 002, 4.3.3.13 and 5.2.3, the low half is the type of memory, which must be 1, and the high half is 1, 2
 -- or 3 for elements of 1, 2 or 4 octets; 0 where it is neither
@@ -67,9 +68,9 @@ elementOf mode =
 -- 1D MEM_RD, 1E MEM_WR (which writes): octet 5; "6-7 count; n = count times element, 1 to L - 12; 8-11 address, all n octets in regions"
 unfoldable pub memoryOf : Bool → List ℕ → Layout → LinkState → Command → Judgement
 memoryOf writes s lay st c =
-    pick (eqb (elementOf (c .mode)) 0) (Refused 9)
-    (pick (eqb (c .count * elementOf (c .mode)) 0) (Refused 9)
-    (pick (ltb (lay .l - 12) (c .count * elementOf (c .mode))) (Refused 9)
+    pick (eqb (elementOf (c .mode)) 0) (Refused 9 Mode)
+    (pick (eqb (c .count * elementOf (c .mode)) 0) (Refused 9 Count)
+    (pick (ltb (lay .l - 12) (c .count * elementOf (c .mode))) (Refused 9 Count)
     (spanOf writes (regionsOf s (lay .regions)) ByMemory (c .address) (c .count * elementOf (c .mode)) st)))
 
 -- checks 4 and 5 of each code; NOP, SYNC_SET and DISCONNECT have no data
@@ -90,6 +91,6 @@ dataOf s lay st c =
 -- "2. Unknown code: alarm 8. 3. Code not allowed in this link: alarm 12. 4. Data: alarm 9. 5. Rights over the whole span: alarm 10."
 unfoldable pub judgeOf : List ℕ → Layout → LinkState → Command → Judgement
 judgeOf s lay st c =
-    pick (not (isKnown (c .code))) (Refused 8)
-    (pick (not (isAllowed (st .link) (c .code))) (Refused 12)
+    pick (not (isKnown (c .code))) (Refused 8 Whole)
+    (pick (not (isAllowed (st .link) (c .code))) (Refused 12 Whole)
     (dataOf s lay st c))

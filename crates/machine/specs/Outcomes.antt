@@ -11,12 +11,14 @@ use Rattle.machine.specs.Judging.{judgeOf}
 use Rattle.machine.specs.declared.words.Command.{Command}
 use Rattle.machine.specs.declared.words.Effect.{Effect}
 use Rattle.machine.specs.declared.words.Effect.the-variants.{Quiet}
+use Rattle.machine.specs.declared.words.Field.{Field}
+use Rattle.machine.specs.declared.words.Field.the-variants.{Whole}
 use Rattle.machine.specs.declared.words.Judgement.{Judgement}
 use Rattle.machine.specs.declared.words.Judgement.the-variants.{Refused, Accepted}
 use Rattle.machine.specs.declared.words.Outcome.{Outcome}
 
-abbrev pub comesTo : ℕ → Effect → LinkState → Outcome
-comesTo alarm effect next = record { alarm = alarm; effect = effect; next = next }
+abbrev pub comesTo : ℕ → Field → Effect → LinkState → Outcome
+comesTo alarm field effect next = record { alarm = alarm; field = field; effect = effect; next = next }
 
 -- MN is the low half of WDT
 abbrev pub mnOf : Command → ℕ
@@ -26,14 +28,14 @@ mnOf c = c .wdt % 16
 unfoldable pub counting : LinkState → LinkState → ℕ → LinkState
 counting before st mn = pick (eqb (before .link) 3 && eqb (st .link) 3) (counted st mn) st
 
--- a refused command latches its alarm and does nothing; an accepted one has alarm 0
+-- a refused command latches its alarm and does nothing; an accepted one has alarm 0, and no field is at fault
 unfoldable pub finished : LinkState → Command → Judgement → Outcome
-finished st c (Refused alarm) = comesTo alarm Quiet (counting st (latched st alarm) (mnOf c))
-finished st c (Accepted effect next) = comesTo 0 effect (counting st next (mnOf c))
+finished st c (Refused alarm field) = comesTo alarm field Quiet (counting st (latched st alarm) (mnOf c))
+finished st c (Accepted effect next) = comesTo 0 Whole effect (counting st next (mnOf c))
 
 -- "1. Link 3 with MN known: MN must be last MN plus 1, modulo 16. If not, nothing is executed, the body is zero, the communication latch becomes
 -- 12, the command alarm is 0, the link becomes 2."
 unfoldable pub outcomeOf : List ℕ → Layout → LinkState → Command → Outcome
 outcomeOf s lay st c =
-    pick (eqb (st .link) 3 && not (followsOf (st .watch) (c .wdt))) (comesTo 0 Quiet (lost st))
+    pick (eqb (st .link) 3 && not (followsOf (st .watch) (c .wdt))) (comesTo 0 Whole Quiet (lost st))
     (finished st c (judgeOf s lay st c))

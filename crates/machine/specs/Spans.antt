@@ -5,13 +5,14 @@ use mathlib.Core.List.{List}
 use lib.Dec.{eqb}
 use Rattle.octets.specs.Pick.{pick}
 use Rattle.link.specs.declared.state.LinkState.{LinkState}
-use Rattle.regions.specs.Search.{spotOf, placeIn, spanHas}
+use Rattle.regions.specs.Search.{spotOf, placeIn, beforeOf, spanHas}
 use Rattle.regions.specs.declared.Region.{Region}
 use Rattle.regions.specs.declared.Right.{Right}
 use Rattle.regions.specs.declared.Right.the-variants.{Mapped, Read, WriteAsync, WriteSync}
 use Rattle.machine.specs.declared.words.Carrier.{Carrier}
 use Rattle.machine.specs.declared.words.Effect.{Effect}
 use Rattle.machine.specs.declared.words.Effect.the-variants.{Reads, Writes}
+use Rattle.machine.specs.declared.words.Field.the-variants.{Address, Span}
 use Rattle.machine.specs.declared.words.Judgement.{Judgement}
 use Rattle.machine.specs.declared.words.Judgement.the-variants.{Refused, Accepted}
 
@@ -29,12 +30,13 @@ moved true by place n = Writes by place n
 abbrev pub spanPlace : List Region → ℕ → ℕ → ℕ
 spanPlace rs a n = pick (eqb n 0) 0 (placeIn (spotOf rs 0 a))
 
--- n octets from address a on are asked to be read, or to be written: check 5, all there is to a parameter's span, since request 8
+-- n octets from address a on are asked to be read, or to be written: check 5, all there is to a parameter's span, since request 8. A refusal names the
+-- first octet that lacks the right
 unfoldable pub grantedOf : Bool → List Region → Carrier → ℕ → ℕ → LinkState → Judgement
 grantedOf writes rs by a n st =
-    pick (not (spanHas rs (rightOf writes (st .link)) a n)) (Refused 10)
+    pick (not (spanHas rs (rightOf writes (st .link)) a n)) (Refused 10 (Span (beforeOf rs (rightOf writes (st .link)) a n)))
     (Accepted (moved writes by (spanPlace rs a n) n) st)
 
 -- and before it check 4, of a memory command's span
 unfoldable pub spanOf : Bool → List Region → Carrier → ℕ → ℕ → LinkState → Judgement
-spanOf writes rs by a n st = pick (not (spanHas rs Mapped a n)) (Refused 9) (grantedOf writes rs by a n st)
+spanOf writes rs by a n st = pick (not (spanHas rs Mapped a n)) (Refused 9 Address) (grantedOf writes rs by a n st)

@@ -2,6 +2,7 @@
 use crate::codes::OUT_OF_RANGE;
 use crate::words::Command;
 use crate::words::Effect;
+use crate::words::Field;
 use crate::words::Judgement;
 use link::state::LinkState;
 use sheet::walk::Layout;
@@ -24,16 +25,16 @@ pub fn connect(layout: Layout, st: LinkState, c: Command) -> Judgement
     ensures { λ r. ⌜ r ≡ connectOf layout st c ⌝ }
 {
     if c.version != layout.version {
-        return Judgement::Refused(OUT_OF_RANGE);
+        return Judgement::Refused(OUT_OF_RANGE, Field::Version);
     }
     if !com_mod_fits(c.com_mod) {
-        return Judgement::Refused(OUT_OF_RANGE);
+        return Judgement::Refused(OUT_OF_RANGE, Field::ComMod);
     }
     if !com_time_fits(c.com_mod, c.com_time) {
-        return Judgement::Refused(OUT_OF_RANGE);
+        return Judgement::Refused(OUT_OF_RANGE, Field::ComTime);
     }
     if c.profile != layout.profile {
-        return Judgement::Refused(OUT_OF_RANGE);
+        return Judgement::Refused(OUT_OF_RANGE, Field::Profile);
     }
     let transfer = c.com_mod / 4 % 4;
     if c.com_mod / 2 % 2 == 1 {

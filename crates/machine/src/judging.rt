@@ -5,6 +5,7 @@ use crate::codes::WRONG_PHASE;
 use crate::words::Carrier;
 use crate::words::Command;
 use crate::words::Effect;
+use crate::words::Field;
 use crate::words::Judgement;
 use link::state::LinkState;
 use sheet::entries::SoughtItem;
@@ -33,13 +34,13 @@ pub fn parameter(writes: bool, sheet: &[u8], layout: Layout, st: LinkState, c: C
 {
     let found = sheet::entries::find_parameter(sheet, layout.regions, layout.parameters, c.number);
     let SoughtParameter::Found(p) = found else {
-        return Judgement::Refused(OUT_OF_RANGE);
+        return Judgement::Refused(OUT_OF_RANGE, Field::Number);
     };
     if c.size != p.size {
-        return Judgement::Refused(OUT_OF_RANGE);
+        return Judgement::Refused(OUT_OF_RANGE, Field::Size);
     }
     if room(layout.l, 8) < c.size {
-        return Judgement::Refused(OUT_OF_RANGE);
+        return Judgement::Refused(OUT_OF_RANGE, Field::Size);
     }
     crate::spans::granted(
         writes,
@@ -64,16 +65,16 @@ pub fn item(sheet: &[u8], layout: Layout, st: LinkState, c: Command) -> Judgemen
         c.item,
     );
     let SoughtItem::Found(i) = found else {
-        return Judgement::Refused(OUT_OF_RANGE);
+        return Judgement::Refused(OUT_OF_RANGE, Field::Item);
     };
     if c.count == 0 {
-        return Judgement::Refused(OUT_OF_RANGE);
+        return Judgement::Refused(OUT_OF_RANGE, Field::Count);
     }
     if (i.length as u32) < c.offset as u32 + c.count as u32 {
-        return Judgement::Refused(OUT_OF_RANGE);
+        return Judgement::Refused(OUT_OF_RANGE, Field::Count);
     }
     if (room(layout.l, 8) as u16) < c.count {
-        return Judgement::Refused(OUT_OF_RANGE);
+        return Judgement::Refused(OUT_OF_RANGE, Field::Count);
     }
     Judgement::Accepted(
         Effect::Identifies(i.at as u64 + c.offset as u64, c.count as u8),
@@ -86,10 +87,10 @@ pub fn alarms(layout: Layout, st: LinkState, c: Command) -> Judgement
     ensures { λ r. ⌜ r ≡ alarmsOf layout st c ⌝ }
 {
     if layout.l < 16 {
-        return Judgement::Refused(OUT_OF_RANGE);
+        return Judgement::Refused(OUT_OF_RANGE, Field::Whole);
     }
     if c.number != 0 {
-        return Judgement::Refused(OUT_OF_RANGE);
+        return Judgement::Refused(OUT_OF_RANGE, Field::Number);
     }
     Judgement::Accepted(
         Effect::Alarms(st.latches.command, st.latches.communication),
@@ -102,7 +103,7 @@ pub fn clear(st: LinkState, c: Command) -> Judgement
     ensures { λ r. ⌜ r ≡ clearOf st c ⌝ }
 {
     if c.number != 0 {
-        return Judgement::Refused(OUT_OF_RANGE);
+        return Judgement::Refused(OUT_OF_RANGE, Field::Number);
     }
     Judgement::Accepted(Effect::Quiet, st.cleared())
 }
@@ -133,14 +134,14 @@ pub fn memory(writes: bool, sheet: &[u8], layout: Layout, st: LinkState, c: Comm
 {
     let width = element(c.mode);
     if width == 0 {
-        return Judgement::Refused(OUT_OF_RANGE);
+        return Judgement::Refused(OUT_OF_RANGE, Field::Mode);
     }
     let n = c.count as u32 * width as u32;
     if n == 0 {
-        return Judgement::Refused(OUT_OF_RANGE);
+        return Judgement::Refused(OUT_OF_RANGE, Field::Count);
     }
     if (room(layout.l, 12) as u32) < n {
-        return Judgement::Refused(OUT_OF_RANGE);
+        return Judgement::Refused(OUT_OF_RANGE, Field::Count);
     }
     crate::spans::span(
         writes,
@@ -180,10 +181,10 @@ pub fn judge(sheet: &[u8], layout: Layout, st: LinkState, c: Command) -> Judgeme
     ensures { λ r. ⌜ r ≡ judgeOf (now (sheet .entry)) layout st c ⌝ }
 {
     if !crate::codes::is_known(c.code) {
-        return Judgement::Refused(OUT_OF_SUPPORT);
+        return Judgement::Refused(OUT_OF_SUPPORT, Field::Whole);
     }
     if !crate::codes::is_allowed(st.link, c.code) {
-        return Judgement::Refused(WRONG_PHASE);
+        return Judgement::Refused(WRONG_PHASE, Field::Whole);
     }
     data_checks(sheet, layout, st, c)
 }

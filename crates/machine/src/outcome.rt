@@ -1,6 +1,7 @@
 // One exchange around checks 2 to 5: check 1, the latches and the watchdog.
 use crate::words::Command;
 use crate::words::Effect;
+use crate::words::Field;
 use crate::words::Judgement;
 use crate::words::Outcome;
 use link::state::LinkState;
@@ -25,13 +26,15 @@ fn finish(st: LinkState, c: Command, judgement: Judgement) -> Outcome
 {
     let mn = c.wdt % 16;
     match judgement {
-        Judgement::Refused(alarm) => Outcome {
+        Judgement::Refused(alarm, field) => Outcome {
             alarm,
+            field,
             effect: Effect::Quiet,
             next: count(st, st.latched(alarm), mn),
         },
         Judgement::Accepted(effect, next) => Outcome {
             alarm: 0,
+            field: Field::Whole,
             effect,
             next: count(st, next, mn),
         },
@@ -47,6 +50,7 @@ pub fn outcome(sheet: &[u8], layout: Layout, st: LinkState, c: Command) -> Outco
     if (st.link == link::state::SYNC_CONNECTED) & !watch.follows(c.wdt) {
         return Outcome {
             alarm: 0,
+            field: Field::Whole,
             effect: Effect::Quiet,
             next: st.lost(),
         };

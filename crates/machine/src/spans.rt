@@ -3,6 +3,7 @@ use crate::codes::NO_RIGHT;
 use crate::codes::OUT_OF_RANGE;
 use crate::words::Carrier;
 use crate::words::Effect;
+use crate::words::Field;
 use crate::words::Judgement;
 use link::state::LinkState;
 use regions::Right;
@@ -51,7 +52,7 @@ pub fn granted(
     if reach.before == size {
         return Judgement::Accepted(moves(writes, by, reach.place, size), st);
     }
-    Judgement::Refused(NO_RIGHT)
+    Judgement::Refused(NO_RIGHT, Field::Span(reach.before))
 }
 
 // A span asked to be read, or to be written. What has the right is mapped, so one search of the span accepts it; a second tells why it is refused.
@@ -68,11 +69,11 @@ pub fn span(
     ensures { λ r. ⌜ r ≡ spanOf writes (regionsOf (now (sheet .entry)) regions) by address size st ⌝ }
 {
     let asked = granted(writes, sheet, regions, by, address, size, st);
-    let Judgement::Refused(_) = asked else {
+    let Judgement::Refused(_, _) = asked else {
         return asked;
     };
     if regions::search::has(sheet, regions, Right::Mapped, address, size) {
         return asked;
     }
-    Judgement::Refused(OUT_OF_RANGE)
+    Judgement::Refused(OUT_OF_RANGE, Field::Address)
 }

@@ -36,15 +36,33 @@ pub enum Effect {
     Connects,
 }
 
-// What checks 2 to 5 say: an alarm, or what is executed with the state that it leaves.
+// What a refusal is about: the field whose check failed, or the octet of the span that lacks the right, by how many octets come before it; the whole command
+// where its code, its link or L is at fault. `frame` knows at which octets the fields begin.
+pub enum Field {
+    Whole,
+    Number,
+    Size,
+    Item,
+    Count,
+    Mode,
+    Address,
+    Version,
+    ComMod,
+    ComTime,
+    Profile,
+    Span(u8),
+}
+
+// What checks 2 to 5 say: an alarm with what it is about, or what is executed with the state that it leaves.
 pub enum Judgement {
-    Refused(u8),
+    Refused(u8, Field),
     Accepted(Effect, LinkState),
 }
 
-// What an exchange comes to: this command's alarm, what is done, and the next state.
+// What an exchange comes to: this command's alarm and what it is about, what is done, and the next state.
 pub struct Outcome {
     pub alarm: u8,
+    pub field: Field,
     pub effect: Effect,
     pub next: LinkState,
 }

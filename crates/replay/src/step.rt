@@ -29,5 +29,5 @@ pub fn one(
     if st.link == link::state::DISABLED {
         return layout.l;
     }
-    slave::exchanging::perform(sheet, layout, st, state, memory, command, theirs, room)
+    slave::exchanging::perform(sheet, layout, st, state, memory, command, theirs, room).at
 }

@@ -36,7 +36,7 @@ use Rattle.slave.specs.Exchange.{Lent, Ready}
 
 -- a judgement whose effect fits
 abbrev Fit : Judgement → ℕ → ℕ → ℕ → Type 0
-Fit (Refused alarm) l m s = Unit {0}
+Fit (Refused alarm field) l m s = Unit {0}
 Fit (Accepted effect next) l m s = Fitting effect l m s
 
 moved-fits : (writes : Bool) (by : Carrier) (place n l m s : ℕ) → dataFrom by + n ≤ l → place + n ≤ m → Fitting (moved writes by place n) l m s
@@ -161,7 +161,7 @@ module _ (s : List ℕ) (lay : Layout) (ok : ValidSheet s lay) (st : LinkState) 
 
   finished-fits : (j : Judgement) → Fit j (lay .l) (lay .memory) (length s) → Fitting (finished st c j .effect) (lay .l) (lay .memory) (length s)
   unfolding finished
-  finished-fits (Refused alarm) f = quiet
+  finished-fits (Refused alarm field) f = quiet
   finished-fits (Accepted effect next) f = f
 
   pub outcome-fits : Fitting (outcomeOf s lay st c .effect) (lay .l) (lay .memory) (length s)

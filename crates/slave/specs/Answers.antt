@@ -1,4 +1,4 @@
--- What a call tells. Document 01, "What each call tells": a number, and a place, which is 0 except for 11 to 17.
+-- What a call tells. Document 01, "What each call tells": a number, and a place, which is 0 except for 11 to 17 and, by request 3, for a refused command.
 use Prim.Native.Nat.{ℕ}
 use Rattle.link.specs.declared.state.LinkState.{LinkState}
 use Rattle.link.specs.declared.stored.Stored.{Stored}

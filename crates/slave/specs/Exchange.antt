@@ -7,7 +7,7 @@ use lib.Dec.{eqb}
 use lib.ListN.{length}
 use Rattle.octets.specs.Pick.{pick}
 use Rattle.frame.specs.Body.{replyOf, memoryAfter}
-use Rattle.frame.specs.Fields.{commandOf}
+use Rattle.frame.specs.Fields.{placeOf, commandOf}
 use Rattle.link.specs.Stored.{octetsOf, stateOf}
 use Rattle.link.specs.declared.state.LinkState.{LinkState}
 use Rattle.link.specs.declared.stored.Stored.the-variants.{State}
@@ -38,10 +38,10 @@ refusalOf lay st memory command reply =
     (pick (eqb (st .link) 0) 5
     0)))
 
--- what is left of an outcome: the next state's record, the memory and the whole reply
+-- what is left of an outcome: the place of what was wrong, the next state's record, the memory and the whole reply
 abbrev pub leftOf : List ℕ → List ℕ → List ℕ → Outcome → Left
 leftOf sheet memory command o =
-    left (told 0 0) (octetsOf (o .next)) (memoryAfter (o .effect) command memory) (replyOf sheet memory command o)
+    left (told 0 (placeOf (o .field))) (octetsOf (o .next)) (memoryAfter (o .effect) command memory) (replyOf sheet memory command o)
 
 -- an exchange that nothing refuses
 unfoldable pub exchanged : List ℕ → Layout → LinkState → List ℕ → List ℕ → Left

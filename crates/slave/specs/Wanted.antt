@@ -37,3 +37,14 @@ performed step reply = record { step = step; reply = reply }
 
 abbrev pub performedOf : List ℕ → List ℕ → List ℕ → Left → Performed
 performedOf wanted state memory x = performed (steppedOf (length wanted) state memory wanted x) (x .reply)
+
+-- the same, with the place that an exchange tells
+pub record Came : Type 0 where
+  pub place : ℕ
+  pub left : Performed
+
+abbrev pub came : ℕ → Performed → Came
+came place left = record { place = place; left = left }
+
+abbrev pub cameOf : List ℕ → List ℕ → List ℕ → Left → Came
+cameOf wanted state memory x = came (x .answer .place) (performedOf wanted state memory x)

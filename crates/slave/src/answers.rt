@@ -1,4 +1,4 @@
-// What a call tells: document 01's number, and a place, of a sheet's fault or of a trace. One type serves every call.
+// What a call tells: document 01's number, and a place, of a sheet's fault, in a refused command or of a trace. One type serves every call.
 use sheet::walk::Verdict;
 ghost use mathlib.Core.Path.{_≡_};
 ghost use Rattle.slave.specs.Answers.{told, sheetAnswer};

@@ -2,6 +2,7 @@
 use crate::answers::Answer;
 use link::state::LinkState;
 use link::stored::Stored;
+use machine::words::Field;
 use machine::words::Outcome;
 use sheet::walk::Layout;
 use sheet::walk::Verdict;
@@ -9,10 +10,10 @@ ghost use mathlib.Core.Path.{_≡_};
 ghost use Prim.Native.Nat.{_≤_};
 ghost use lib.ListN.{length};
 ghost use Rattle.frame.specs.Body.{replyOf};
-ghost use Rattle.frame.specs.Fields.{commandOf};
+ghost use Rattle.frame.specs.Fields.{placeOf, commandOf};
 ghost use Rattle.machine.specs.Outcomes.{outcomeOf};
 ghost use Rattle.slave.specs.Exchange.{left, refusalOf, exchanged, exchangeOf, Lent, Ready};
-ghost use Rattle.slave.specs.Wanted.{stepped, performed, performedOf};
+ghost use Rattle.slave.specs.Wanted.{stepped, performed, came, cameOf};
 
 // The first refusal behind the sheet's and the state's, by lengths and link; 0 where there is none.
 fn refusal(layout: Layout, st: LinkState, memory: usize, command: usize, reply: usize) -> u8
@@ -54,6 +55,12 @@ fn build(
     outcome
 }
 
+// What a performed command tells: the field that a refusal is about, and the first octet at which the reply is not what is wanted.
+pub struct Done {
+    pub field: Field,
+    pub at: u8,
+}
+
 // The outcome of a command: the whole reply, and, where it begins with what is wanted of it, memory and state. An exchange wants nothing of it, a replay
 // the trace's reply.
 pub fn perform(
@@ -65,20 +72,21 @@ pub fn perform(
     command: &[u8],
     wanted: &[u8],
     reply: &mut [u8],
-) -> u8
+) -> Done
     requires { ⌜ Ready (now sheet) (now state) (now memory) (now command) (now reply) layout st × (length (now wanted) ≤ layout .l) ⌝ }
-    ensures { λ d. ⌜ performed (stepped d (now (state .exit)) (now (memory .exit))) (now (reply .exit)) ≡ performedOf (now (wanted .entry)) (now (state .entry)) (now (memory .entry)) (exchanged (now (sheet .entry)) layout st (now (memory .entry)) (now (command .entry))) ⌝ }
+    ensures { λ d. ⌜ came (placeOf (d .field)) (performed (stepped (d .at) (now (state .exit)) (now (memory .exit))) (now (reply .exit))) ≡ cameOf (now (wanted .entry)) (now (state .entry)) (now (memory .entry)) (exchanged (now (sheet .entry)) layout st (now (memory .entry)) (now (command .entry))) ⌝ }
 {
     let outcome = build(sheet, layout, st, memory, command, reply);
-    let d = crate::wanted::differs(reply, wanted);
-    if (d as usize) < wanted.len() {
-        return d;
+    let field = outcome.field;
+    let at = crate::wanted::differs(reply, wanted);
+    if (at as usize) < wanted.len() {
+        return Done { field, at };
     }
     let effect = outcome.effect;
     let next = outcome.next;
     frame::body::store(effect, command, memory);
     link::stored::write(state, next);
-    d
+    Done { field, at }
 }
 
 // One exchange on lent octets of any lengths and contents.
@@ -103,7 +111,7 @@ pub fn exchange(
     if refused != 0 {
         return crate::answers::plain(refused);
     }
-    perform(
+    let done = perform(
         sheet,
         layout,
         st,
@@ -113,5 +121,9 @@ pub fn exchange(
         &command[..0],
         reply,
     );
-    crate::answers::plain(crate::answers::DONE)
+    let field = done.field;
+    Answer {
+        number: crate::answers::DONE,
+        place: frame::fields::place_of(field) as u32,
+    }
 }

@@ -6,6 +6,7 @@ use lib.Dec.{eqb}
 use Rattle.octets.proofs.Pick.{pick-yes, pick-no}
 use Rattle.machine.specs.Outcomes.{comesTo, finished, outcomeOf}
 use Rattle.machine.specs.declared.words.Effect.the-variants.{Quiet}
+use Rattle.machine.specs.declared.words.Field.the-variants.{Whole}
 use Rattle.machine.proofs.outcome.outcome.Statement.{statement}
 use Rattle.machine.proofs.outcome.outcome.Tie as tie
 
@@ -13,7 +14,7 @@ returns : tie.Need-returns
 unfolding outcomeOf
 returns c =
     let f = ap (λ (b : Bool). eqb (c .before .before .before .before .before .before .args .st .link) 3 && not b) (sym (c .before .before .follows .ensures)) in
-    ap (comesTo 0 Quiet) (c .lost .ensures) ∙ sym (pick-yes _ _ (f ∙ c .before .if1 .taken))
+    ap (comesTo 0 Whole Quiet) (c .lost .ensures) ∙ sym (pick-yes _ _ (f ∙ c .before .if1 .taken))
 
 returns-2 : tie.Need-returns-2
 unfolding outcomeOf

@@ -13,7 +13,8 @@ use Rattle.regions.specs.declared.Right.{Right}
 use Rattle.regions.specs.declared.search.Reach.{Reach}
 use Rattle.machine.specs.Spans.{rightOf, moved, spanPlace, grantedOf}
 use Rattle.machine.specs.declared.words.Effect.{Effect}
-use Rattle.machine.specs.declared.words.Judgement.the-variants.{Accepted}
+use Rattle.machine.specs.declared.words.Field.the-variants.{Span}
+use Rattle.machine.specs.declared.words.Judgement.the-variants.{Refused, Accepted}
 use Rattle.machine.proofs.spans.granted.Statement.{statement}
 use Rattle.machine.proofs.spans.granted.Tie as tie
 
@@ -36,7 +37,8 @@ returns-2 c =
     let a = c .before .before .before .before .before .args in
     let rs = regionsOf (a .sheet .now) (a .regions) in
     let e = c .before .before .before2 .ensures ∙ ap (λ (w : Right). reachOf rs w (a .address) (a .size)) (c .before .before .before .right-of .ensures) in
-    sym (pick-yes _ _ (ap not (ne-eqb _ _ (λ all. c .if1 .left (ap (λ (r : Reach). r .before) e ∙ all)))))
+    let before = ap (λ (r : Reach). r .before) e in
+    ap (λ (b : ℕ). Refused 10 (Span b)) before ∙ sym (pick-yes _ _ (ap not (ne-eqb _ _ (λ all. c .if1 .left (before ∙ all)))))
 
 pub granted-spec : {M : Type 1} → statement M
 granted-spec =

@@ -10,12 +10,13 @@ use Rattle.octets.proofs.Cases.{decided}
 use Rattle.octets.proofs.Pick.{pick-yes, pick-no}
 use Rattle.link.specs.declared.state.LinkState.{LinkState}
 use Rattle.regions.specs.Region.{regionsOf}
-use Rattle.regions.specs.Search.{spanHas}
+use Rattle.regions.specs.Search.{beforeOf, spanHas}
 use Rattle.regions.specs.declared.Region.{Region}
 use Rattle.regions.proofs.Spans.{span-mapped}
 use Rattle.machine.specs.Spans.{rightOf, grantedOf, spanOf}
 use Rattle.machine.specs.declared.words.Carrier.{Carrier}
 use Rattle.machine.specs.declared.words.Effect.{Effect}
+use Rattle.machine.specs.declared.words.Field.the-variants.{Span}
 use Rattle.machine.specs.declared.words.Judgement.{Judgement}
 use Rattle.machine.specs.declared.words.Judgement.the-variants.{Refused, Accepted}
 use Rattle.machine.proofs.spans.span.Statement.{statement}
@@ -28,7 +29,7 @@ unfolding grantedOf
 granted-right writes rs by a n st e next q =
     ⊎-elim (λ (t : spanHas rs (rightOf writes (st .link)) a n ≡ true). t)
     (λ (f : spanHas rs (rightOf writes (st .link)) a n ≡ false).
-    let w : Refused 10 ≡ Accepted e next = sym (pick-yes _ _ (ap not f)) ∙ q in
+    let w : Refused 10 (Span (beforeOf rs (rightOf writes (st .link)) a n)) ≡ Accepted e next = sym (pick-yes _ _ (ap not f)) ∙ q in
     absurd (let z : _≡_ {A = ℕ} 0 1 = cc in let v : ⊥ = omega arith in v))
     (decided (spanHas rs (rightOf writes (st .link)) a n))
 

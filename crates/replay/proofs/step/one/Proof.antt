@@ -7,7 +7,7 @@ use borrow.Author.Needs.{needs}
 use lib.ListN.{length}
 use Rattle.slave.specs.Answers.{told}
 use Rattle.slave.specs.Exchange.{Left, left, exchanged, exchangeOf}
-use Rattle.slave.specs.Wanted.{Performed, performed, performedOf}
+use Rattle.slave.specs.Wanted.{Performed, performed, performedOf, Came}
 use Rattle.replay.proofs.Steps.{step-performed, step-refused, is-invalid, is-disabled, is-exchanged}
 use Rattle.replay.proofs.step.one.Statement.{statement}
 use Rattle.replay.proofs.step.one.Tie as tie
@@ -53,7 +53,7 @@ returns-3 c =
     → exchangeOf (a .sheet .now) (a .state .now) (a .memory .now) (a .command .now) reply ≡ exchanged (a .sheet .now) (a .layout) st (a .memory .now) (a .command .now) =
     λ reply e. is-exchanged (a .sheet .now) (a .state .now) (a .memory .now) (a .command .now) reply (a .layout) (p .0) st
     (sym (known .before .before .read .ensures) ∙ known .held .given .1) (p .1) (p .3) e (call .before .before .before .before .if1 .left) in
-    let done = call .perform .ensures in
+    let done = ap (λ (x : Came). x .left) (call .perform .ensures) in
     ap₂ performed
     (step-performed (a .layout .l) (a .state .now) (a .memory .now) _ _ (p .4) (done ∙ ap (performedOf (a .theirs .now) (a .state .now) (a .memory .now)) (sym (whole _ (p .4)))))
     (ap (λ (x : Performed). x .reply) done ∙ sym (ap (λ (x : Left). x .reply) (whole (a .room .now) (p .2))))

@@ -6,7 +6,7 @@ use borrow.Author.Needs.{needs}
 use Rattle.octets.proofs.Pick.{pick-differ, pick-same}
 use Rattle.slave.specs.Answers.{told, sheetAnswer}
 use Rattle.slave.specs.Exchange.{left, exchanged, exchangeOf}
-use Rattle.slave.specs.Wanted.{Performed}
+use Rattle.slave.specs.Wanted.{Came}
 use Rattle.slave.specs.declared.answers.Answer.{Answer}
 use Rattle.slave.proofs.Differs.{wanted-nothing}
 use Rattle.slave.proofs.Order.{on-faulty, on-valid, on-invalid, on-state, no-refusal}
@@ -64,8 +64,9 @@ unfolding exchangeOf exchanged
 returns-4 c =
     let a = c .before .before .before .before .before .before .before .before .before .before .before .before .before .before .before .before .before .before .before .before .before .before .before .before .before .before .before .before .args in
     let e = c .before .before .before .before .before .before .before .perform .ensures in
-    let step = ap (λ (x : Performed). x .step) e ∙ wanted-nothing (a .state .now) (a .memory .now) _ in
-    (λ i. left (c .plain3 .ensures i) (step i .state) (step i .memory) (e i .reply))
+    let step = ap (λ (x : Came). x .left .step) e ∙ wanted-nothing (a .state .now) (a .memory .now) _ in
+    let place = c .place-of .ensures ∙ ap (λ (x : Came). x .place) e in
+    (λ i. left (told 0 (place i)) (step i .state) (step i .memory) (e i .left .reply))
     ∙ sym
     (on-valid _ _ _ _ (sym (c .before .before .before .before .before .before .before .before .before .before .before .before .before .before .before .before .before .before .before .before .before .before .check .ensures) ∙ c .before .before .before .before .before .before .before .before .before .before .before .before .before .before .before .before .before .before .before .before .verdict .given .1)
     ∙ on-state _ _ _ _ (sym (c .before .before .before .before .before .before .before .before .before .before .before .before .before .before .before .before .before .read .ensures) ∙ c .before .before .before .before .before .before .before .before .before .before .before .before .before .before .before .held .given .1)
@@ -76,4 +77,4 @@ exchange-spec =
     tie.close (tie.spec (λ c κs. search needs) (λ c. search needs) (λ c. search needs) (λ c κs. search needs) returns (λ c κs. search needs)
     (λ c. search needs) (λ c. search needs) (λ c κs. search needs) (λ c. search needs) returns-2 (λ c κs. search needs) (λ c κs. search needs)
     (λ c. search needs) returns-3 (λ c. search needs) perform-requires (λ c κs. search needs) (λ c. search needs) (λ c. search needs)
-    (λ c. search needs) returns-4)
+    (λ c. search needs) (λ c. search needs) returns-4)

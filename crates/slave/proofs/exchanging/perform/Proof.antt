@@ -8,14 +8,14 @@ use borrow.Author.Needs.{needs}
 use lib.ListN.{length}
 use Rattle.octets.proofs.Pick.{pick-eq, pick-ne}
 use Rattle.frame.specs.Body.{memoryAfter}
-use Rattle.frame.specs.Fields.{commandOf}
+use Rattle.frame.specs.Fields.{placeOf, commandOf}
 use Rattle.frame.proofs.Rooms.{fits-stored}
 use Rattle.link.specs.Stored.{octetsOf}
 use Rattle.link.proofs.Back.{written, read-valid}
 use Rattle.machine.specs.declared.words.Outcome.{Outcome}
 use Rattle.sheet.proofs.Valid.{valid-sheet, length-most}
 use Rattle.slave.specs.Exchange.{exchanged}
-use Rattle.slave.specs.Wanted.{differsAt, stepped, steppedOf, performed}
+use Rattle.slave.specs.Wanted.{differsAt, stepped, steppedOf, performed, came}
 use Rattle.slave.proofs.Differs.{differs-most}
 use Rattle.slave.proofs.Fits.{lent-fits, ready-lent}
 use Rattle.slave.proofs.exchanging.perform.Statement.{statement}
@@ -38,7 +38,8 @@ returns c =
     let e = c .before .differs .ensures ∙ ap (λ (x : List ℕ). differsAt x (a .wanted .now)) reply in
     let step = ap (λ (n : ℕ). stepped n (a .state .now) (a .memory .now)) e
     ∙ sym (pick-ne _ _ (λ z. let k : d ≡ length (a .wanted .now) = e ∙ z in let w : ⊥ = omega arith in w)) in
-    λ i. performed (step i) (reply i)
+    let place = ap (λ (x : Outcome). placeOf (x .field)) (c .before .before .before .before .before .build .ensures .0) in
+    λ i. came (place i) (performed (step i) (reply i))
 
 store-requires : tie.Need-store-requires
 store-requires c κs =
@@ -64,7 +65,8 @@ returns-2 c =
     let state = c .before .before .write .ensures ∙ written (a .state .now) (o .next) (read-valid _ _ _ (c .before .before .before .before .before .before .before .before .before .before .before .before .before .before .before .before .before .before .before .before .before .before .before .pre .0 .held) .0) ∙ ap (λ (x : Outcome). octetsOf (x .next)) q in
     let memory = c .before .before .before .before .before .before .store .ensures ∙ ap (λ (x : Outcome). memoryAfter (x .effect) (a .command .now) (a .memory .now)) q in
     let step = (λ i. stepped (e i) (state i) (memory i)) ∙ sym (pick-eq _ _ (sym e ∙ all)) in
-    λ i. performed (step i) (reply i)
+    let place = ap (λ (x : Outcome). placeOf (x .field)) q in
+    λ i. came (place i) (performed (step i) (reply i))
 
 pub perform-spec : {M : Type 1} → statement M
 perform-spec =
