@@ -5,6 +5,7 @@ use Prim.Native.Nat.{ℕ, _/_}
 use lib.ListN.{getD}
 use Rattle.octets.specs.Numbers.{le2At, le4At}
 use Rattle.machine.specs.declared.words.Command.{Command}
+use Rattle.machine.specs.declared.words.Field.{Field}
 use Rattle.machine.specs.declared.words.Field.the-variants.{Whole, Number, Size, Item, Count, Mode, Address, Version, ComMod, ComTime, Profile, Span}
 use Rattle.frame.specs.Fields.{placeOf, commandOf}
 
@@ -31,50 +32,54 @@ pub command-named : (c : List ℕ) → commandOf c ≡ named (getD c 0 0) c
 unfolding commandOf placeOf
 command-named c = refl
 
-pub whole-at : placeOf Whole ≡ 0
-unfolding placeOf
-whole-at = refl
+-- a refusal that is about a field tells a place
+pub record Tells (field : Field) (place : ℕ) : Type 0 where
+  pub told : placeOf field ≡ place
 
-pub number-at : placeOf Number ≡ 4
+pub whole-at : Tells Whole 0
 unfolding placeOf
-number-at = refl
+whole-at = record { told = refl }
 
-pub size-at : placeOf Size ≡ 6
+pub number-at : Tells Number 4
 unfolding placeOf
-size-at = refl
+number-at = record { told = refl }
 
-pub item-at : placeOf Item ≡ 4
+pub size-at : Tells Size 6
 unfolding placeOf
-item-at = refl
+size-at = record { told = refl }
 
-pub count-at : placeOf Count ≡ 6
+pub item-at : Tells Item 4
 unfolding placeOf
-count-at = refl
+item-at = record { told = refl }
 
-pub mode-at : placeOf Mode ≡ 5
+pub count-at : Tells Count 6
 unfolding placeOf
-mode-at = refl
+count-at = record { told = refl }
 
-pub address-at : placeOf Address ≡ 8
+pub mode-at : Tells Mode 5
 unfolding placeOf
-address-at = refl
+mode-at = record { told = refl }
 
-pub version-at : placeOf Version ≡ 4
+pub address-at : Tells Address 8
 unfolding placeOf
-version-at = refl
+address-at = record { told = refl }
 
-pub com-mod-at : placeOf ComMod ≡ 5
+pub version-at : Tells Version 4
 unfolding placeOf
-com-mod-at = refl
+version-at = record { told = refl }
 
-pub com-time-at : placeOf ComTime ≡ 6
+pub com-mod-at : Tells ComMod 5
 unfolding placeOf
-com-time-at = refl
+com-mod-at = record { told = refl }
 
-pub profile-at : placeOf Profile ≡ 7
+pub com-time-at : Tells ComTime 6
 unfolding placeOf
-profile-at = refl
+com-time-at = record { told = refl }
 
-pub span-at : (before : ℕ) → placeOf (Span before) ≡ before
+pub profile-at : Tells Profile 7
 unfolding placeOf
-span-at before = refl
+profile-at = record { told = refl }
+
+pub span-at : (before : ℕ) → Tells (Span before) before
+unfolding placeOf
+span-at before = record { told = refl }

@@ -62,7 +62,7 @@ done-same h w st f m c whole asked on =
     let fits = subst₂ (λ (x y : ℕ). Fitting (o .effect) x y (length (sheetOctets h))) (sym asked) (sym whole)
     (outcome-fits (sheetOctets h) (layoutFor h) (valid-sheet (sheetOctets h) (layoutFor h) (complete h w)) st (commandOf c)) in
     let r = reply-same h (sheetOctets h) st m c o (fateOf h (octetsOf st) m c) same (fate-small h (octetsOf st) m c) v asked (world .long) fits in
-    λ i. result 0 0 (same .next i) (same .memory i) (r i)
+    λ i. result 0 (same .place i) (same .next i) (same .memory i) (r i)
 
 picked : (b : Bool) (x y : After) {u v : Result} → leavesState x ≡ u → leavesState y ≡ v → leavesState (pick b x y) ≡ when b u v
 unfolding pick when

@@ -13,7 +13,7 @@ use Rattle.octets.proofs.Cases.{eq-or-ne}
 use Rattle.frame.specs.Fields.{commandOf}
 use Rattle.frame.proofs.Bodies.{quiet-at}
 use Rattle.frame.proofs.Kept.{quiet-keeps}
-use Rattle.frame.proofs.Named.{named, command-named}
+use Rattle.frame.proofs.Named.{named, command-named, Tells, whole-at}
 use Rattle.law.proofs.Layouts.{layoutFor}
 use Rattle.law.specs.Words.{when, oneOf, Piece, piece, laid}
 use Rattle.law.specs.Sheet.{Sheet}
@@ -34,6 +34,8 @@ use Rattle.regions.specs.Region.{givesOf}
 use Rattle.regions.specs.declared.Right.the-variants.{WriteAsync, WriteSync}
 use Rattle.machine.specs.declared.words.Command.{Command}
 use Rattle.machine.specs.declared.words.Effect.the-variants.{Quiet}
+use Rattle.machine.specs.declared.words.Field.{Field}
+use Rattle.machine.specs.declared.words.Field.the-variants.{Whole}
 use Rattle.machine.specs.declared.words.Judgement.{Judgement}
 use Rattle.machine.specs.declared.words.Judgement.the-variants.{Refused, Accepted}
 use Rattle.law.proofs.Laid.{when-no}
@@ -81,10 +83,11 @@ module _ (h : Sheet) (sheet : List ℕ) (st : LinkState) (m c : List ℕ) (facts
   via-here : {j k : Judgement} {f : Fate} → j ≡ k → Is k f → Is j f
   via-here = via h sheet st m c facts on world asked
 
-  step-here : (t b : Bool) (a : ℕ) {y : Judgement} {f : Fate} → t ≡ not b → (b ≡ true → Is y f) → Is (pick t (Refused a) y) (when b f (refused s a))
+  step-here : (t b : Bool) (a : ℕ) {field : Field} {place : ℕ} {y : Judgement} {f : Fate} → Tells field place → t ≡ not b → (b ≡ true → Is y f)
+      → Is (pick t (Refused a field) y) (when b f (refused s a place))
   step-here = step h sheet st m c facts on world asked
 
-  quiet-here : (next : LinkState) (ps : List Piece) → Goes st (counting st next (mn c)) (mn c) ps → Is (Accepted Quiet next) (fate 0 ps [] [])
+  quiet-here : (next : LinkState) (ps : List Piece) → Goes st (counting st next (mn c)) (mn c) ps → Is (Accepted Quiet next) (fate 0 0 ps [] [])
   quiet-here = quiet h sheet st m c facts on world asked
 
   -- a known code: its row
@@ -95,7 +98,7 @@ module _ (h : Sheet) (sheet : List ℕ) (st : LinkState) (m c : List ℕ) (facts
   known k d r e₁ e₂ e₃ e₄ g =
       subst (λ (f : Fate). Is (judgeOf sheet (layoutFor h) st (named k c)) f) (sym e₄)
       (via-here (pick-no _ _ (ap not e₁))
-      (step-here _ _ 12 (ap not e₂) (λ a. via-here e₃ (g a))))
+      (step-here _ _ 12 whole-at (ap not e₂) (λ a. via-here e₃ (g a))))
 
   read-is : (x : ℕ) → readable x ≡ givesOf x (rightOf false (st .link))
   unfolding givesOf rightOf
@@ -119,9 +122,9 @@ module _ (h : Sheet) (sheet : List ℕ) (st : LinkState) (m c : List ℕ) (facts
   unfolding judgeOf judged
   unknown-code n z0 z1 z2 z3 z4 z5 z6 z7 z8 z9 z10 =
       via-here (pick-yes _ _ (ap not (not-known n z0 z1 z2 z3 z4 z5 z6 z7 z8 z9 z10)))
-      (subst (λ (f : Fate). Is (Refused 8) f) (sym (
+      (subst (λ (f : Fate). Is (Refused 8 Whole) f) (sym (
       when-no _ _ (ne-eqb n 0x00 z0) ∙ when-no _ _ (ne-eqb n 0x01 z1) ∙ when-no _ _ (ne-eqb n 0x02 z2) ∙ when-no _ _ (ne-eqb n 0x03 z3) ∙ when-no _ _ (ne-eqb n 0x05 z4) ∙ when-no _ _ (ne-eqb n 0x06 z5) ∙ when-no _ _ (ne-eqb n 0x0D z6) ∙ when-no _ _ (ne-eqb n 0x0E z7) ∙ when-no _ _ (ne-eqb n 0x0F z8) ∙ when-no _ _ (ne-eqb n 0x1D z9) ∙ when-no _ _ (ne-eqb n 0x1E z10)))
-      (refusing h sheet st m c facts on world asked 8))
+      (refusing h sheet st m c facts on world asked 8 Whole 0 whole-at))
 
   judge-same : (n : ℕ) → Is (judgeOf sheet (layoutFor h) st (named n c)) (judged s n (table h s m c))
   unfolding isKnown isAllowed dataOf judged pick when checked
@@ -142,10 +145,10 @@ module _ (h : Sheet) (sheet : List ℕ) (st : LinkState) (m c : List ℕ) (facts
 
   -- check 1
   lost-or : (b : Bool) {y : Judgement} {f : Fate} → (b ≡ true → eqb (link s) 3 ≡ true) → Is y f
-      → Same h sheet st m c (pick b (comesTo 0 Quiet (lost st)) (finished st (named (code c) c) y)) (when b lostCycle f)
+      → Same h sheet st m c (pick b (comesTo 0 Whole Quiet (lost st)) (finished st (named (code c) c) y)) (when b lostCycle f)
   unfolding pick when laid
   lost-or true g k =
-      record { alarm = refl; next = goes-lost (mn c) st facts on (g refl); body = λ k old. quiet-at sheet m c k old; memory = quiet-keeps c m ∙ unmoved h sheet st m c facts on world asked }
+      record { alarm = refl; place = whole-at .told; next = goes-lost (mn c) st facts on (g refl); body = λ k old. quiet-at sheet m c k old; memory = quiet-keeps c m ∙ unmoved h sheet st m c facts on world asked }
   lost-or false g k = k .same
 
   -- "Link 3 with MN known": MN known is 0 or 1
@@ -158,7 +161,7 @@ module _ (h : Sheet) (sheet : List ℕ) (st : LinkState) (m c : List ℕ) (facts
   unfolding outcomeOf fateOf followsOf octetsOf
   named-same =
       let n = named (code c) c in
-      subst (λ (b : Bool). Same h sheet st m c (pick (eqb (st .link) 3 && b) (comesTo 0 Quiet (lost st)) (finished st n (judgeOf sheet (layoutFor h) st n))) (fateOf h s m c))
+      subst (λ (b : Bool). Same h sheet st m c (pick (eqb (st .link) 3 && b) (comesTo 0 Whole Quiet (lost st)) (finished st n (judgeOf sheet (layoutFor h) st n))) (fateOf h s m c))
       (sym (follows (st .watch .known) (facts .known) (eqb (mn c) ((st .watch .last + 1) % 16))))
       (lost-or _ (λ e. and-first _ _ e) (judge-same (code c)))
 

@@ -49,20 +49,20 @@ when-both P false p q = q
 abbrev Small : Fate → Type 0
 Small f = f .alarm < 16
 
-refused-small : (s : List ℕ) (a : ℕ) → a < 16 → Small (refused s a)
+refused-small : (s : List ℕ) (a place : ℕ) → a < 16 → Small (refused s a place)
 unfolding refused
-refused-small s a l = l
+refused-small s a place l = l
 
 checked-small : (s : List ℕ) (ks : List Check) (r : Row) → smallChecks ks ≡ true → Small (checked s ks r)
 unfolding checked
 checked-small s [] r e = omega arith
 checked-small s (k ∷ ks) r e =
     let p = both (ltb (k .alarm) 16) (smallChecks ks) e in
-    when-both Small (k .holds) (checked-small s ks r (p .1)) (refused-small s (k .alarm) (ltb-true (k .alarm) 16 (p .0)))
+    when-both Small (k .holds) (checked-small s ks r (p .1)) (refused-small s (k .alarm) (k .place) (ltb-true (k .alarm) 16 (p .0)))
 
 judged-small : (s : List ℕ) (code : ℕ) (rs : List Row) → smallRows rs ≡ true → Small (judged s code rs)
 unfolding judged
-judged-small s code [] e = refused-small s 8 (omega arith)
+judged-small s code [] e = refused-small s 8 0 (omega arith)
 judged-small s code (r ∷ rs) e =
     let p = both (smallChecks (r .checks)) (smallRows rs) e in
     when-both Small (eqb code (r .code)) (checked-small s _ r (p .0)) (judged-small s code rs (p .1))

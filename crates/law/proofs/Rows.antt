@@ -13,14 +13,15 @@ use Rattle.octets.specs.Pick.{pick}
 use Rattle.frame.specs.Body.{dataFrom, memoryAfter}
 use Rattle.frame.proofs.Bodies.{carriedAt, bodyAt, quiet-at, reads-at, writes-at, parameter-at, memory-at, parameter-data, memory-data, identifies-at, alarms-at, connects-at}
 use Rattle.frame.proofs.Kept.{quiet-keeps, reads-keep, writes-store, identifies-keep, alarms-keep, connects-keep}
-use Rattle.frame.proofs.Named.{named}
+use Rattle.frame.specs.Fields.{placeOf}
+use Rattle.frame.proofs.Named.{named, Tells, whole-at, number-at, size-at, item-at, count-at, mode-at, address-at, version-at, com-mod-at, com-time-at, profile-at, span-at}
 use Rattle.frame.proofs.Rooms.{parameter-least, memory-room}
 use Rattle.law.proofs.Layouts.{layoutFor}
 use Rattle.law.specs.Words.{when, oneOf, Piece, piece, laid}
 use Rattle.law.specs.Sheet.{Item as Ident, Sheet}
 use Rattle.law.specs.State.{link}
-use Rattle.law.specs.Memory.{cells, stored, held, hasAll, mapped}
-use Rattle.law.specs.Table.{Check, check, Row, row, table, parameterChecks as paramChecks, memoryChecks as memChecks, number, parameter as param, item as ident, count, address, n as span, element}
+use Rattle.law.specs.Memory.{cells, stored, held, hasAll, hasBefore, mapped}
+use Rattle.law.specs.Table.{Check, check, rightsCheck, Row, row, table, parameterChecks as paramChecks, memoryChecks as memChecks, number, parameter as param, item as ident, count, address, n as span, element}
 use Rattle.law.specs.Exchange.{Fate, fate, code, mn, refused, checked}
 use Rattle.link.specs.Steps.{cleared}
 use Rattle.link.specs.Stored.{octetsOf}
@@ -33,15 +34,18 @@ use Rattle.machine.specs.Spans.{grantedOf, spanOf, spanPlace, moved, rightOf}
 use Rattle.machine.specs.declared.words.Carrier.{Carrier}
 use Rattle.machine.specs.declared.words.Carrier.the-variants.{Parameter, Memory}
 use Rattle.regions.specs.Region.{regionsOf, givesOf}
+use Rattle.regions.specs.Search.{beforeOf}
 use Rattle.regions.specs.declared.Region.{Region}
 use Rattle.regions.specs.declared.Right.the-variants.{Mapped}
 use Rattle.regions.proofs.Spans.{span-mapped}
 use Rattle.sheet.specs.Entries.{parametersOf, soughtParameter}
 use Rattle.sheet.specs.declared.entries.SoughtItem.{SoughtItem}
 use Rattle.sheet.specs.declared.entries.SoughtParameter.{SoughtParameter}
-use Rattle.law.proofs.Spans.{all-span}
+use Rattle.law.proofs.Spans.{all-span, before-span}
 use Rattle.machine.specs.declared.words.Effect.{Effect}
 use Rattle.machine.specs.declared.words.Effect.the-variants.{Quiet, Identifies, Alarms, Connects}
+use Rattle.machine.specs.declared.words.Field.{Field}
+use Rattle.machine.specs.declared.words.Field.the-variants.{Whole, Number, Size, Item, Count, Mode, Address, Version, ComMod, ComTime, Profile, Span}
 use Rattle.machine.specs.declared.words.Judgement.{Judgement}
 use Rattle.machine.specs.declared.words.Judgement.the-variants.{Refused, Accepted}
 use Rattle.machine.specs.declared.words.Outcome.{Outcome}
@@ -52,9 +56,10 @@ use Rattle.law.proofs.Fields.{less-not, none-not, two-octets, com-mod, 
 use Rattle.law.proofs.World.{nth, pieceAt, dataPiece, written, World, mapped-is}
 
 module _ (h : Sheet) (sheet : List ℕ) (st : LinkState) (m c : List ℕ) where
-  -- an outcome of the machine and a fate of the table are the same: alarm, next state, body and memory
+  -- an outcome of the machine and a fate of the table are the same: alarm, place, next state, body and memory
   pub record Same (o : Outcome) (f : Fate) : Type 0 where
     pub alarm : o .alarm ≡ f .alarm
+    pub place : placeOf (o .field) ≡ f .place
     pub next : Goes st (o .next) (mn c) (f .changes)
     pub body : (k old : ℕ) → bodyAt (o .effect) sheet m c k old ≡ laid (f .body) k old
     pub memory : memoryAfter (o .effect) c m ≡ stored (f .stores) (cells (h .regions)) m
@@ -73,11 +78,13 @@ module _ (h : Sheet) (sheet : List ℕ) (st : LinkState) (m c : List ℕ) where
     abbrev pub rowAt : ℕ → Row
     rowAt i = nth (table h s m c) i
 
-    pub refusing : (a : ℕ) → J (Refused a) (refused s a)
+    -- a refusal is about a field, and tells the place where frame says that it begins
+    pub refusing : (a : ℕ) (field : Field) (place : ℕ) → Tells field place → J (Refused a field) (refused s a place)
     unfolding finished refused laid
-    refusing a = record {
+    refusing a field place at = record {
       same = record {
         alarm = refl;
+        place = at .told;
         next = goes-latched (mn c) st facts on a;
         body = λ k old. quiet-at sheet m c k old;
         memory = quiet-keeps c m ∙ sym (stored-none (cells (h .regions)) m whole);
@@ -89,23 +96,24 @@ module _ (h : Sheet) (sheet : List ℕ) (st : LinkState) (m c : List ℕ) where
     via {f = f} e g = subst (λ (x : Judgement). J x f) (sym e) g
 
     -- a check of both
-    pub step : (t b : Bool) (a : ℕ) {y : Judgement} {f : Fate} → t ≡ not b → (b ≡ true → J y f) → J (pick t (Refused a) y) (when b f (refused s a))
+    pub step : (t b : Bool) (a : ℕ) {field : Field} {place : ℕ} {y : Judgement} {f : Fate} → Tells field place → t ≡ not b → (b ≡ true → J y f)
+        → J (pick t (Refused a field) y) (when b f (refused s a place))
     unfolding pick when
-    step t true a {y} {f} e g = subst (λ (x : Bool). J (pick x (Refused a) y) f) (sym e) (g refl)
-    step t false a {y} {f} e g = subst (λ (x : Bool). J (pick x (Refused a) y) (refused s a)) (sym e) (refusing a)
+    step t true a {field} {place} {y} {f} at e g = subst (λ (x : Bool). J (pick x (Refused a field) y) f) (sym e) (g refl)
+    step t false a {field} {place} {y} {f} at e g = subst (λ (x : Bool). J (pick x (Refused a field) y) (refused s a place)) (sym e) (refusing a field place at)
 
     -- a row without octets
-    pub quiet : (next : LinkState) (ps : List Piece) → Goes st (counting st next (mn c)) (mn c) ps → J (Accepted Quiet next) (fate 0 ps [] [])
+    pub quiet : (next : LinkState) (ps : List Piece) → Goes st (counting st next (mn c)) (mn c) ps → J (Accepted Quiet next) (fate 0 0 ps [] [])
     unfolding finished laid
     quiet next ps g =
-        record { same = record { alarm = refl; next = g; body = λ k old. quiet-at sheet m c k old; memory = quiet-keeps c m ∙ sym (stored-none (cells (h .regions)) m whole) } }
+        record { same = record { alarm = refl; place = whole-at .told; next = g; body = λ k old. quiet-at sheet m c k old; memory = quiet-keeps c m ∙ sym (stored-none (cells (h .regions)) m whole) } }
 
     -- a row with octets
     pub doing : (e : Effect) (next : LinkState) {ps body memory : List Piece} → Goes st (counting st next (mn c)) (mn c) ps
         → ((k old : ℕ) → bodyAt e sheet m c k old ≡ laid body k old) → memoryAfter e c m ≡ stored memory (cells (h .regions)) m
-        → J (Accepted e next) (fate 0 ps body memory)
+        → J (Accepted e next) (fate 0 0 ps body memory)
     unfolding finished
-    doing e next g b n = record { same = record { alarm = refl; next = g; body = b; memory = n } }
+    doing e next g b n = record { same = record { alarm = refl; place = whole-at .told; next = g; body = b; memory = n } }
 
     pub unmoved : m ≡ stored [] (cells (h .regions)) m
     unmoved = sym (stored-none (cells (h .regions)) m whole)
@@ -171,29 +179,29 @@ module _ (h : Sheet) (sheet : List ℕ) (st : LinkState) (m c : List ℕ) where
       granted-row : (writes : Bool) (right : ℕ → Bool) (a n : ℕ) → ((x : ℕ) → right x ≡ givesOf x (rightOf writes (st .link))) → dataFrom by + n ≤ h .l
           → (x : ℕ) (ns : List ℕ) (ks : List Check)
           → J (grantedOf writes (map asRegion (h .regions)) by a n st)
-          (checked s (check (hasAll right (cells (h .regions)) a n) 10 0 ∷ [])
+          (checked s (rightsCheck right (cells (h .regions)) a n ∷ [])
           (row x ns ks [] (echo ∷ dataPiece writes from (cells (h .regions)) m c a n ∷ []) (written writes from c a n)))
       unfolding grantedOf checked
       granted-row writes right a n same l x ns ks =
           let w = rightOf writes (st .link) in
           let rs = map asRegion (h .regions) in
-          step _ _ 10 (ap not (sym (all-span right w same (h .regions) a n))) (λ t.
+          step _ _ 10 (subst (Tells (Span (beforeOf rs w a n))) (sym (before-span right w same (h .regions) a n)) (span-at (beforeOf rs w a n))) (ap not (sym (all-span right w same (h .regions) a n))) (λ t.
           let q = all-span mapped Mapped mapped-is (h .regions) a n ∙ span-mapped rs w a n (sym (all-span right w same (h .regions) a n) ∙ t) in
           doing (moved writes by (spanPlace rs a n) n) st kept (moved-body writes a n q) (moved-memory writes a n l q))
 
       span-row : (writes : Bool) (right : ℕ → Bool) (a n : ℕ) → ((x : ℕ) → right x ≡ givesOf x (rightOf writes (st .link))) → dataFrom by + n ≤ h .l
-          → (x : ℕ) (ns : List ℕ) (ks : List Check)
+          → (place : ℕ) → Tells Address place → (x : ℕ) (ns : List ℕ) (ks : List Check)
           → J (spanOf writes (map asRegion (h .regions)) by a n st)
-          (checked s (check (hasAll mapped (cells (h .regions)) a n) 9 0 ∷ check (hasAll right (cells (h .regions)) a n) 10 0 ∷ [])
+          (checked s (check (hasAll mapped (cells (h .regions)) a n) 9 place ∷ rightsCheck right (cells (h .regions)) a n ∷ [])
           (row x ns ks [] (echo ∷ dataPiece writes from (cells (h .regions)) m c a n ∷ []) (written writes from c a n)))
       unfolding spanOf checked
-      span-row writes right a n same l x ns ks =
-          step _ _ 9 (ap not (sym (all-span mapped Mapped mapped-is (h .regions) a n))) (λ q. granted-row writes right a n same l x ns ks)
+      span-row writes right a n same l place at x ns ks =
+          step _ _ 9 at (ap not (sym (all-span mapped Mapped mapped-is (h .regions) a n))) (λ q. granted-row writes right a n same l x ns ks)
 
-    found-or : (b : Bool) (a : ℕ) {y : Judgement} {f : Fate} → (b ≡ true → J y f) → (b ≡ false → J y (refused s a)) → J y (when b f (refused s a))
+    found-or : (b : Bool) (a place : ℕ) {y : Judgement} {f : Fate} → (b ≡ true → J y f) → (b ≡ false → J y (refused s a place)) → J y (when b f (refused s a place))
     unfolding when
-    found-or true a g k = g refl
-    found-or false a g k = k refl
+    found-or true a place g k = g refl
+    found-or false a place g k = k refl
 
     -- a command of any code: only the code decides the row
     module _ (code : ℕ) where
@@ -201,14 +209,14 @@ module _ (h : Sheet) (sheet : List ℕ) (st : LinkState) (m c : List ℕ) where
       pub alarms-row : J (alarmsOf (layoutFor h) st (named code c)) (checked s (rowAt 4 .checks) (rowAt 4))
       unfolding alarmsOf checked
       alarms-row =
-          step _ _ 9 (less-not (h .l) _) (λ l.
-          step _ _ 9 (ap (λ (x : ℕ). not (eqb x 0)) (two-octets c _)) (λ z.
+          step _ _ 9 whole-at (less-not (h .l) _) (λ l.
+          step _ _ 9 number-at (ap (λ (x : ℕ). not (eqb x 0)) (two-octets c _)) (λ z.
           doing (Alarms (st .latches .command) (st .latches .communication)) st kept alarms-body (alarms-keep c m (st .latches .command) (st .latches .communication) ∙ unmoved)))
 
       -- 06 ALM_CLR
       pub clear-row : J (clearOf st (named code c)) (checked s (rowAt 5 .checks) (rowAt 5))
       unfolding clearOf checked
-      clear-row = step _ _ 9 (ap (λ (x : ℕ). not (eqb x 0)) (two-octets c _)) (λ z. quiet (cleared st) _ (goes-cleared (mn c) st facts on))
+      clear-row = step _ _ 9 number-at (ap (λ (x : ℕ). not (eqb x 0)) (two-octets c _)) (λ z. quiet (cleared st) _ (goes-cleared (mn c) st facts on))
 
       -- 01 PRM_RD, 02 PRM_WR
       pub param-row : (writes : Bool) (right : ℕ → Bool) → ((x : ℕ) → right x ≡ givesOf x (rightOf writes (st .link))) → (x : ℕ) (ns : List ℕ) (ks : List Check)
@@ -222,16 +230,16 @@ module _ (h : Sheet) (sheet : List ℕ) (st : LinkState) (m c : List ℕ) where
           let n = number h s m c in
           let same-number : named code c .number ≡ n = two-octets c _ in
           let at = ap₂ soughtParameter (world .parameters) same-number in
-          found-or _ 9 (λ b.
+          found-or _ 9 _ (λ b.
           via (ap (λ (y : SoughtParameter). parameterData writes (regionsOf sheet (length (h .regions))) (layoutFor h) st (named code c) y) (at ∙ param-found (h .parameters) n b))
-          (step _ _ 9 refl (λ e.
-          step _ _ 9 (less-not _ size) (λ l.
+          (step _ _ 9 size-at refl (λ e.
+          step _ _ 9 size-at (less-not _ size) (λ l.
           via (ap (λ (rs : List Region). grantedOf writes rs Parameter (p .address) (p .size) st) (world .regions))
           (granted-row Parameter (echoIn 1) (fromIn 1) parameter-lays writes right (p .address) (p .size) same
           (let q = eqb-true size (p .size) e in let r = leb-true size _ l in parameter-least (p .size) (h .l) (world .long) (omega arith)) x ns ks)))))
           (λ b.
           via (ap (λ (y : SoughtParameter). parameterData writes (regionsOf sheet (length (h .regions))) (layoutFor h) st (named code c) y) (at ∙ param-missing (h .parameters) n b))
-          (refusing 9))
+          (refusing 9 Number _ number-at))
 
       -- 0E CONNECT
       pub connect-row : oneOf (link s) (rowAt 7 .links) ≡ true → J (connectOf (layoutFor h) st (named code c)) (checked s (rowAt 7 .checks) (rowAt 7))
@@ -239,11 +247,11 @@ module _ (h : Sheet) (sheet : List ℕ) (st : LinkState) (m c : List ℕ) where
       connect-row ok =
           let mode = named code c .«com_mod» in
           let time = named code c .«com_time» in
-          step _ _ 9 refl (λ a.
-          step _ _ 9 (ap not (com-mod mode)) (λ b.
+          step _ _ 9 version-at refl (λ a.
+          step _ _ 9 com-mod-at (ap not (com-mod mode)) (λ b.
           let three = com-mods mode b in
-          step _ _ 9 (ap not (com-time mode time three)) (λ d.
-          step _ _ 9 refl (λ e.
+          step _ _ 9 com-time-at (ap not (com-time mode time three)) (λ d.
+          step _ _ 9 profile-at refl (λ e.
           doing Connects _ (connect-goes (mn c) st facts on mode time three ok) connects-body (connects-keep c m ∙ unmoved)))))
 
       -- 1D MEM_RD, 1E MEM_WR
@@ -257,13 +265,13 @@ module _ (h : Sheet) (sheet : List ℕ) (st : LinkState) (m c : List ℕ) where
           let n = span h s m c in
           let el = elements (k .mode) in
           let sp : k .count * elementOf (k .mode) ≡ n = ap₂ _*_ (two-octets c _) el in
-          step _ _ 9 (ap (λ (n : ℕ). eqb n 0) el ∙ none-not (element (k .mode))) (λ a.
-          step _ _ 9 (ap (λ (n : ℕ). eqb n 0) sp ∙ none-not n) (λ b.
-          step _ _ 9 (ap (ltb _) sp ∙ less-not _ n) (λ d.
+          step _ _ 9 mode-at (ap (λ (n : ℕ). eqb n 0) el ∙ none-not (element (k .mode))) (λ a.
+          step _ _ 9 count-at (ap (λ (n : ℕ). eqb n 0) sp ∙ none-not n) (λ b.
+          step _ _ 9 count-at (ap (ltb _) sp ∙ less-not _ n) (λ d.
           via (ap (λ (rs : List Region). spanOf writes rs Memory (k .address) (k .count * elementOf (k .mode)) st) (world .regions))
           (via (ap₂ (λ (at n : ℕ). spanOf writes (map asRegion (h .regions)) Memory at n st) (four-octets c _) sp)
           (span-row Memory (echoIn 9) (fromIn 9) memory-lays writes right (address h s m c) n same
-          (memory-room n (h .l) (leb-true 1 n b) (leb-true n _ d)) x ns ks)))))
+          (memory-room n (h .l) (leb-true 1 n b) (leb-true n _ d)) _ address-at x ns ks)))))
 
       -- 03 ID_RD
       item-body : (at k o : ℕ) → (oneOf (named code c .item) (map (λ (i : Ident). i .code) (h .items)) ≡ true) → at ≡ world .items (named code c .item) .at
@@ -286,11 +294,11 @@ module _ (h : Sheet) (sheet : List ℕ) (st : LinkState) (m c : List ℕ) where
           let size = ident h s m c .length in
           let w = world .items n in
           let two : named code c .count ≡ k = two-octets c _ in
-          found-or _ 9 (λ b.
+          found-or _ 9 _ (λ b.
           via (ap (λ (y : SoughtItem). itemData (layoutFor h) st (named code c) y) (w .found b))
-          (step _ _ 9 (ap (λ (i : ℕ). eqb i 0) two ∙ none-not k) (λ d.
-          step _ _ 9 (ap (λ (i : ℕ). ltb size (o + i)) two ∙ less-not size (o + k)) (λ e.
-          step _ _ 9 (ap (ltb _) two ∙ less-not _ k) (λ f.
+          (step _ _ 9 count-at (ap (λ (i : ℕ). eqb i 0) two ∙ none-not k) (λ d.
+          step _ _ 9 count-at (ap (λ (i : ℕ). ltb size (o + i)) two ∙ less-not size (o + k)) (λ e.
+          step _ _ 9 count-at (ap (ltb _) two ∙ less-not _ k) (λ f.
           via (ap (λ (i : ℕ). Accepted (Identifies (w .at + o) i) st) two)
           (doing (Identifies (w .at + o) k) st kept (item-body (w .at) k o b refl refl refl (leb-true (o + k) size e)) (identifies-keep c m (w .at + o) k ∙ unmoved)))))))
-          (λ b. via (ap (λ (y : SoughtItem). itemData (layoutFor h) st (named code c) y) (w .missing b)) (refusing 9))
+          (λ b. via (ap (λ (y : SoughtItem). itemData (layoutFor h) st (named code c) y) (w .missing b)) (refusing 9 Item _ item-at))

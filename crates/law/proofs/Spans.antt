@@ -12,7 +12,7 @@ use Rattle.octets.specs.Pick.{pick}
 use Rattle.octets.proofs.Cases.{lt-or-le, eq-or-ne}
 use Rattle.law.specs.Words.{when}
 use Rattle.law.specs.Sheet.{Region as Area}
-use Rattle.law.specs.Memory.{Cell, cellsFrom, cells, has, hasAll}
+use Rattle.law.specs.Memory.{Cell, cellsFrom, cells, has, hasAll, hasBefore}
 use Rattle.regions.specs.Region.{holdsOf, givesOf}
 use Rattle.regions.specs.Search.{grantsOf, beforeOf, spanHas}
 use Rattle.regions.specs.declared.Right.{Right}
@@ -74,3 +74,10 @@ all-span q w same rs a zero = refl
 all-span q w same rs a (suc n) =
     ap₂ _&&_ (has-grants q w same rs a) (all-span q w same rs (suc a) n)
     ∙ all-step (grantsOf (map asRegion rs) w a) (spanHas (map asRegion rs) w (suc a) n) (beforeOf (map asRegion rs) w (suc a) n) n refl
+
+pub before-span : (q : ℕ → Bool) (w : Right) → ((x : ℕ) → q x ≡ givesOf x w) → (rs : List Area) (a n : ℕ) → hasBefore q (cells rs) a n ≡ beforeOf (map asRegion rs) w a n
+unfolding hasBefore beforeOf
+before-span q w same rs a zero = refl
+before-span q w same rs a (suc n) =
+    ap (λ (b : Bool). when b (suc (hasBefore q (cells rs) (suc a) n)) 0) (has-grants q w same rs a)
+    ∙ when-pick (grantsOf (map asRegion rs) w a) (ap suc (before-span q w same rs (suc a) n)) refl
