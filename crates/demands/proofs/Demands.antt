@@ -1,7 +1,7 @@
 -- The owner's page, proved.
 use Rattle.law.proofs.ByTables.{by-tables, one-reading}
 use Rattle.law.proofs.Promises.{promises}
-use Rattle.demands.specs.Demands.{FirstDemand, SecondDemand, ThirdDemand, IdlePrograms, OnTheBench, Request1, Request6, Request8}
+use Rattle.demands.specs.Demands.{FirstDemand, SecondDemand, ThirdDemand, IdlePrograms, OnTheBench, Request1, Request3, Request6, Request8}
 use Rattle.demands.proofs.Agreed.{traces-have-replies, agrees-exactly}
 use Rattle.demands.proofs.Alone.{refuses-all-keeps-secrets, single-reply-keeps-secrets, stores-nothing-keeps-secrets, echoes-afterwards-keeps-secrets, invents-rsn-keeps-secrets, invents-rsn-agrees-where-reached}
 use Rattle.demands.proofs.Bench.{sheet-p-is-valid, bench-cases}
@@ -12,9 +12,11 @@ use Rattle.demands.proofs.Folded.{replay-is-fold}
 use Rattle.demands.proofs.Identity.{identity-comes-back, control-is-ignored}
 use Rattle.demands.proofs.Mapped.{parameters-are-mapped, mapped-is-not-asked}
 use Rattle.demands.proofs.Histories.{history-is-run}
+use Rattle.demands.proofs.Lacking.{first-without-the-right}
 use Rattle.demands.proofs.LawBench.{bench-by-law}
 use Rattle.demands.proofs.OnTheWire.{refused-on-the-wire}
 use Rattle.demands.proofs.Owned.{writes-own-octets}
+use Rattle.demands.proofs.Places.{first-failed-is-told, octets-of-the-fields, no-field-was-wrong, places-are-the-same}
 use Rattle.demands.proofs.Playing.{replay-plays, records-are-answered, secrets-in-whole-replay, refused-replay-writes-nothing}
 use Rattle.demands.proofs.Reached.{secrets-in-replay, only-agreeing-reach}
 use Rattle.demands.proofs.Runs.{refused-changes-nothing, states-stay-valid, memory-keeps-its-length, demand-3}
@@ -59,6 +61,15 @@ on-the-bench = record { sheet-p = sheet-p-is-valid; cases = bench-cases; cases-b
 
 pub request-1 : Request1
 request-1 = record { the-identity-comes-back = identity-comes-back; control-is-ignored = control-is-ignored }
+
+pub request-3 : Request3
+request-3 = record {
+  the-first-that-fails-is-told = first-failed-is-told;
+  the-octets-of-the-fields = octets-of-the-fields;
+  no-field-was-wrong = no-field-was-wrong;
+  the-first-without-the-right = first-without-the-right;
+  demand-3-covers-the-place = places-are-the-same;
+}
 
 pub request-6 : Request6
 request-6 = record {

@@ -40,8 +40,12 @@ least-length l five =
 abbrev pub lawful : Sheet → List ℕ → List ℕ → List ℕ → Result
 lawful h s m c = done h s m c (fateOf h s m c)
 
+-- a place is told from the packed answer of a built reply
+place-of : (p q : ℕ) → 0 + 4294967296 * p ≡ 0 + 4294967296 * q → p ≡ q
+place-of p q e = omega arith
+
 pub answered-done : (h : Sheet) (sheet s m c r : List ℕ) → Answered h sheet s m c r
-    → exchangeOf sheet s m c r ≡ left (told 0 0) (lawful h s m c .state) (lawful h s m c .memory) (lawful h s m c .reply)
+    → exchangeOf sheet s m c r ≡ left (told 0 (fateOf h s m c .place)) (lawful h s m c .state) (lawful h s m c .memory) (lawful h s m c .reply)
 unfolding fieldsOf exchanged
 answered-done h sheet s m c r a =
     let q = state-yes h s (a .valid) in
@@ -50,7 +54,7 @@ answered-done h sheet s m c r a =
     done-same h (a .good) st (q .2) m c (a .whole) (a .asked) (a .enabled) ∙ ap (λ (x : List ℕ). lawful h x m c) (sym (q .1)) in
     ap (λ (x : List ℕ). exchangeOf x s m c r) (a .written)
     ∙ is-exchanged (sheetOctets h) s m c r (layoutFor h) (complete h (a .good)) st (q .0) (a .whole) (a .asked) (a .lent) (a .enabled)
-    ∙ (λ i. left (told 0 0) (ap (λ (x : Result). x .state) e i) (ap (λ (x : Result). x .memory) e i) (ap (λ (x : Result). x .reply) e i))
+    ∙ (λ i. left (told 0 (place-of _ _ (ap (λ (x : Result). x .answer) e) i)) (ap (λ (x : Result). x .state) e i) (ap (λ (x : Result). x .memory) e i) (ap (λ (x : Result). x .reply) e i))
 
 module _ (h : Sheet) (s m c : List ℕ) (long : 8 ≤ h .l) where
   abbrev f : Fate

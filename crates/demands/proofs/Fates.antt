@@ -13,48 +13,67 @@ use native.Mathlib.Omega.{arith}
 use borrow.Author.Tests.{ltb-true, leb-true, eqb-true}
 use lib.Dec.{eqb, leb, ltb}
 use lib.ListN.{length, take, drop}
-use Rattle.law.specs.Words.{when, Every, oneOf, Piece, piece, laid}
+use Rattle.law.specs.Words.{when, implies, Every, oneOf, Piece, piece, laid}
 use Rattle.law.specs.Sheet.{Sheet}
 use Rattle.law.specs.State.{link, commandLatch}
 use Rattle.law.specs.Memory.{cells, writable, hasAll}
 use Rattle.law.specs.Table.{Check, check, Row, table, parameter, address, n}
 use Rattle.law.specs.Exchange.{Fate, fate, code, lost, missed, refused, checked, judged, headFor, fateOf}
 use Rattle.law.proofs.Laid.{when-yes, when-no}
+use Rattle.demands.specs.Places.{Holds}
 
-both : (a b : Bool) → a && b ≡ true → (a ≡ true) × (b ≡ true)
+pub both : (a b : Bool) → a && b ≡ true → (a ≡ true) × (b ≡ true)
 both true b e = (refl, e)
 both false b e = absurd (let z : _≡_ {A = ℕ} 0 1 = cc in let v : ⊥ = omega arith in v)
 
-when-cases : (P : Fate → Type 0) (b : Bool) {x y : Fate} → (b ≡ true → P x) → (b ≡ false → P y) → P (when b x y)
+pub when-cases : (P : Fate → Type 0) (b : Bool) {x y : Fate} → (b ≡ true → P x) → (b ≡ false → P y) → P (when b x y)
 unfolding when
 when-cases P true p q = p refl
 when-cases P false p q = q refl
 
--- a check holds
-abbrev pub Holds : Check → Type 0
-Holds k = k .holds ≡ true
+-- every alarm of the table is named: it is not 0, and fits half an octet; and those of code and link have no place
+abbrev pub namedCheck : Check → Bool
+namedCheck k = leb 1 (k .alarm) && (ltb (k .alarm) 16 && implies (oneOf (k .alarm) (8 ∷ 12 ∷ [])) (eqb (k .place) 0))
 
--- every alarm of the table is named: it is not 0, and fits half an octet
-abbrev namedChecks : List Check → Bool
+abbrev pub namedChecks : List Check → Bool
 namedChecks [] = true
-namedChecks (k ∷ ks) = (leb 1 (k .alarm) && ltb (k .alarm) 16) && namedChecks ks
+namedChecks (k ∷ ks) = namedCheck k && namedChecks ks
 
-abbrev namedRows : List Row → Bool
+-- what every refusal's alarm and place have
+pub record Named (a place : ℕ) : Type 0 where
+  pub some : 1 ≤ a
+  pub small : a < 16
+  pub whole : oneOf a (8 ∷ 12 ∷ []) ≡ true → place ≡ 0
+
+holds-then : (a b : Bool) → implies a b ≡ true → a ≡ true → b ≡ true
+holds-then true b e q = e
+holds-then false b e q = absurd (let z : _≡_ {A = ℕ} 0 1 = cc in let v : ⊥ = omega arith in v)
+
+pub check-named : (k : Check) → namedCheck k ≡ true → Named (k .alarm) (k .place)
+check-named k e =
+    let p = both _ _ e in
+    let q = both _ _ (p .1) in
+    record {
+      some = leb-true 1 (k .alarm) (p .0);
+      small = ltb-true (k .alarm) 16 (q .0);
+      whole = λ t. eqb-true (k .place) 0 (holds-then _ _ (q .1) t);
+    }
+
+abbrev pub namedRows : List Row → Bool
 namedRows [] = true
 namedRows (r ∷ rs) = namedChecks (r .checks) && namedRows rs
 
 -- the row, done
 abbrev pub doneRow : Row → Fate
-doneRow r = fate 0 (r .changes) (r .body) (r .stores)
+doneRow r = fate 0 0 (r .changes) (r .body) (r .stores)
 
-module _ (s : List ℕ) (P : Fate → Type 0) (not-done : (a : ℕ) → 1 ≤ a → a < 16 → P (refused s a)) where
+module _ (s : List ℕ) (P : Fate → Type 0) (not-done : (a place : ℕ) → Named a place → P (refused s a place)) where
   checked-by : (ks : List Check) (r : Row) → namedChecks ks ≡ true → (Every Holds ks → P (doneRow r)) → P (checked s ks r)
   unfolding checked
   checked-by [] r e go = go tt
   checked-by (k ∷ ks) r e go =
       let p = both _ _ e in
-      let q = both _ _ (p .0) in
-      when-cases P (k .holds) (λ t. checked-by ks r (p .1) (λ all. go (t, all))) (λ f. not-done (k .alarm) (leb-true 1 (k .alarm) (q .0)) (ltb-true (k .alarm) 16 (q .1)))
+      when-cases P (k .holds) (λ t. checked-by ks r (p .1) (λ all. go (t, all))) (λ f. not-done (k .alarm) (k .place) (check-named k (p .0)))
 
   -- each row that is done: its link allows it, and its checks hold
   abbrev Done : Row → Type 0
@@ -62,7 +81,7 @@ module _ (s : List ℕ) (P : Fate → Type 0) (not-done : (a : ℕ) → 1 ≤ a 
 
   pub judged-by : (code : ℕ) (rs : List Row) → namedRows rs ≡ true → Every Done rs → P (judged s code rs)
   unfolding judged
-  judged-by code [] e all = not-done 8 (omega arith) (omega arith)
+  judged-by code [] e all = not-done 8 0 (record { some = omega arith; small = omega arith; whole = λ t. refl })
   judged-by code (r ∷ rs) e all =
       let p = both _ _ e in
       when-cases P (eqb code (r .code))
@@ -77,7 +96,7 @@ module _ (h : Sheet) (s m c : List ℕ) where
   named : namedRows (table h s m c) ≡ true
   named = refl
 
-  pub fate-by : (P : Fate → Type 0) → P lost → ((a : ℕ) → 1 ≤ a → a < 16 → P (refused s a))
+  pub fate-by : (P : Fate → Type 0) → P lost → ((a place : ℕ) → Named a place → P (refused s a place))
       → Every (λ (r : Row). oneOf (link s) (r .links) ≡ true → Every Holds (r .checks) → P (doneRow r)) (table h s m c) → P (fateOf h s m c)
   unfolding fateOf
   fate-by P p r all = when-cases P (missed s c) (λ e. p) (λ e. judged-by s P r (code c) (table h s m c) named all)
@@ -86,11 +105,11 @@ module _ (h : Sheet) (s m c : List ℕ) where
   row = judged s (code c) (table h s m c)
 
   -- a judged command is refused, or has no alarm
-  pub row-refused : (row .alarm ≡ 0 → ⊥) → (1 ≤ row .alarm) × (row ≡ refused s (row .alarm))
+  pub row-refused : (row .alarm ≡ 0 → ⊥) → (1 ≤ row .alarm) × (row ≡ refused s (row .alarm) (row .place))
   unfolding refused
   row-refused =
-      judged-by s (λ f. (f .alarm ≡ 0 → ⊥) → (1 ≤ f .alarm) × (f ≡ refused s (f .alarm)))
-      (λ a l u z. (l, refl)) (code c) (table h s m c) named
+      judged-by s (λ f. (f .alarm ≡ 0 → ⊥) → (1 ≤ f .alarm) × (f ≡ refused s (f .alarm) (f .place)))
+      (λ a place w z. (w .some, refl)) (code c) (table h s m c) named
       (u, (u, (u, (u, (u, (u, (u, (u, (u, (u, (u, tt)))))))))))
     where
       u : {A B C : Type 0} → A → B → (_≡_ {A = ℕ} 0 0 → ⊥) → C
@@ -108,7 +127,7 @@ module _ (h : Sheet) (s m c : List ℕ) where
   pub fate-body : Every (λ (p : Piece). headSize ≤ p .first) (fateOf h s m c .body)
   unfolding refused
   fate-body =
-      fate-by (λ f. Every (λ (p : Piece). headSize ≤ p .first) (f .body)) tt (λ a l u. tt) (
+      fate-by (λ f. Every (λ (p : Piece). headSize ≤ p .first) (f .body)) tt (λ a place w. tt) (
         λ a b. tt,
         (
           λ a b. (omega arith, (omega arith, tt)),
@@ -147,7 +166,7 @@ module _ (h : Sheet) (s m c : List ℕ) where
   pub fate-small : fateOf h s m c .alarm < 16
   unfolding refused
   fate-small =
-      fate-by (λ f. f .alarm < 16) z (λ a l u. u)
+      fate-by (λ f. f .alarm < 16) z (λ a place w. w .small)
       (λ a b. z, (λ a b. z, (λ a b. z, (λ a b. z, (λ a b. z, (λ a b. z, (λ a b. z, (λ a b. z, (λ a b. z, (λ a b. z, (λ a b. z, tt)))))))))))
     where
       z : 0 < 16
@@ -173,7 +192,7 @@ module _ (h : Sheet) (s m c : List ℕ) where
   pub fate-writes : 8 ≤ h .l → (fateOf h s m c .stores ≡ []) ⊎ Writing (fateOf h s m c)
   unfolding refused
   fate-writes long =
-      fate-by (λ f. (f .stores ≡ []) ⊎ Writing f) (inl refl) (λ a l u. inl refl) (
+      fate-by (λ f. (f .stores ≡ []) ⊎ Writing f) (inl refl) (λ a place w. inl refl) (
         λ a b. inl refl,
         (
           λ a b. inl refl,
@@ -235,7 +254,7 @@ module _ (h : Sheet) (s m c : List ℕ) where
   unfolding refused laid when
   row-stays =
       judged-by s (λ f. link s ≡ 3 → laid (f .changes) 1 (link s) ≡ 2 → ⊥)
-      (λ a l u e q. same e (sym (latch-stays (eqb (commandLatch s) 0) a (link s)) ∙ q)) (code c) (table h s m c) named
+      (λ a place w e q. same e (sym (latch-stays (eqb (commandLatch s) 0) a (link s)) ∙ q)) (code c) (table h s m c) named
       (stay, (stay, (stay, (stay, (stay, (stay, (away 2 (omega arith), (away 1 (omega arith), (λ a b e q. let w : ⊥ = omega arith in w, (stay, (stay, tt)))))))))))
     where
       same : link s ≡ 3 → link s ≡ 2 → ⊥

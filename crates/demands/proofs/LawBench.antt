@@ -8,7 +8,7 @@ use Rattle.law.specs.Words.{when, laid, overFrom}
 use Rattle.law.specs.Sheet.{WellFormed}
 use Rattle.law.specs.Faults.{nothing, records}
 use Rattle.law.specs.State.{validState}
-use Rattle.law.specs.Memory.{stored, heldAt, held, has, hasAll}
+use Rattle.law.specs.Memory.{stored, heldAt, held, has, hasAll, hasBefore}
 use Rattle.law.specs.Table.{parameterOf, itemOf}
 use Rattle.law.specs.Exchange.{refused, checked, judged, fateOf, watched, stateAfter, replyFor}
 use Rattle.law.specs.Calls.{exchange}
@@ -40,7 +40,7 @@ p-good = record {
 }
 
 pub bench-by-law : BenchByLaw
-unfolding when laid overFrom stored heldAt held has hasAll parameterOf itemOf refused checked judged fateOf watched stateAfter replyFor validState exchange
+unfolding when laid overFrom stored heldAt held has hasAll hasBefore parameterOf itemOf refused checked judged fateOf watched stateAfter replyFor validState exchange
 bench-by-law = (
   inl (lawP, p-good, refl, refl),
   (

@@ -13,6 +13,8 @@ pub mod Secrets
 pub mod Lengths
 pub mod Identity
 pub mod Mapped
+pub mod Places
+pub mod Lacking
 pub mod Shut
 pub mod Replays
 pub mod Agreed

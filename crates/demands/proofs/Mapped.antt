@@ -9,7 +9,7 @@ use borrow.Author.Tests.{le-leb, lt-ltb, eq-eqb, ne-eqb}
 use lib.Dec.{eqb}
 use Rattle.octets.proofs.Cases.{decided, eq-or-ne}
 use Rattle.law.specs.Words.{when, Every, Some, oneOf}
-use Rattle.law.specs.Sheet.{Region, Parameter, Sheet, WellFormed, GoodParameter, InRegion}
+use Rattle.law.specs.Sheet.{Region, Parameter, GoodParameter, InRegion}
 use Rattle.law.specs.Memory.{cells, mapped, has, hasAll}
 use Rattle.law.specs.Table.{parameterOf, number}
 use Rattle.law.specs.Exchange.{Fate, checked}
@@ -54,11 +54,11 @@ parameters-are-mapped h w n e =
     all-mapped (h .regions) (parameterOf (h .parameters) n .address) (parameterOf (h .parameters) n .size) (good .spans)
 
 -- a fourth check that holds wherever the first does may be left out
-left-out : (a b d e : Bool) (x y : Fate) → (a ≡ true → e ≡ true) → when a (when b (when d (when e x y) y) y) y ≡ when a (when b (when d x y) y) y
-left-out a b d e x y holds =
-    ⊎-elim (λ (t : a ≡ true). ap (λ (z : Fate). when a (when b (when d z y) y) y) (when-yes _ _ (holds t)))
+left-out : (a b d e : Bool) (x y₁ y₂ y₃ y₄ : Fate) → (a ≡ true → e ≡ true) → when a (when b (when d (when e x y₄) y₃) y₂) y₁ ≡ when a (when b (when d x y₃) y₂) y₁
+left-out a b d e x y₁ y₂ y₃ y₄ holds =
+    ⊎-elim (λ (t : a ≡ true). ap (λ (z : Fate). when a (when b (when d z y₃) y₂) y₁) (when-yes _ _ (holds t)))
     (λ (f : a ≡ false). when-no _ _ f ∙ sym (when-no _ _ f)) (decided a)
 
 pub mapped-is-not-asked : MappedIsNotAsked
 unfolding checked
-mapped-is-not-asked h w s m c right row = left-out _ _ _ _ _ _ (λ t. parameters-are-mapped h w (number h s m c) t)
+mapped-is-not-asked h w s m c right row = left-out _ _ _ _ _ _ _ _ _ (λ t. parameters-are-mapped h w (number h s m c) t)

@@ -30,7 +30,7 @@ module _ (h : Sheet) (sheet s m c r : List ℕ) (a : Answered h sheet s m c r) w
   abbrev x : Left
   x = exchangeOf sheet s m c r
 
-  is : x ≡ left (told 0 0) (lawful h s m c .state) (lawful h s m c .memory) (lawful h s m c .reply)
+  is : x ≡ left (told 0 (fateOf h s m c .place)) (lawful h s m c .state) (lawful h s m c .memory) (lawful h s m c .reply)
   is = answered-done h sheet s m c r a
 
   long : 8 ≤ h .l
@@ -42,10 +42,10 @@ module _ (h : Sheet) (sheet s m c r : List ℕ) (a : Answered h sheet s m c r) w
   -- a fate without body and stored octets, and what it does to the state
   by-fate : (f : Fate) → fateOf h s m c ≡ f → f .body ≡ [] → f .stores ≡ []
       → (missed s c ≡ true → (alarmIn (x .reply) ≡ 0) × (x .state ≡ stateAfter s (mn c) (lost .changes)))
-      → (missed s c ≡ false → (alarmIn (x .reply) ≡ 0 → ⊥) × (x .state ≡ stateAfter s (mn c) (refused s (alarmIn (x .reply)) .changes)))
+      → (missed s c ≡ false → (alarmIn (x .reply) ≡ 0 → ⊥) × (x .state ≡ stateAfter s (mn c) (refused s (alarmIn (x .reply)) (x .answer .place) .changes)))
       → RefusedByReply h s m c x
   by-fate f e body memory watchdog alarm = record {
-    reply-built = ap (λ (l : Left). l .answer) is;
+    reply-built = ap (λ (l : Left). l .answer .number) is;
     nothing-stored = ap (λ (l : Left). l .memory) is ∙ ap (λ (ps : List Piece). stored ps (cells (h .regions)) m) (ap (λ (g : Fate). g .stores) e ∙ memory)
         ∙ stored-none (cells (h .regions)) m (a .whole ∙ sym (length-cells (h .regions)));
     whole = ap (λ (l : Left). length (l .reply)) is ∙ seen-whole h s m c long;
@@ -62,26 +62,27 @@ module _ (h : Sheet) (sheet s m c r : List ℕ) (a : Answered h sheet s m c r) w
   row-alarm t f z =
       true-not-false (sym (ap₂ _&&_ (ap not t) (eq-eqb (judged s (code c) (table h s m c) .alarm) 0 z)) ∙ f)
 
-  refused-body : (n : ℕ) → refused s n .body ≡ []
+  refused-body : (n place : ℕ) → refused s n place .body ≡ []
   unfolding refused
-  refused-body n = refl
+  refused-body n place = refl
 
-  refused-memory : (n : ℕ) → refused s n .stores ≡ []
+  refused-memory : (n place : ℕ) → refused s n place .stores ≡ []
   unfolding refused
-  refused-memory n = refl
+  refused-memory n place = refl
 
   by-row : missed s c ≡ false → accepted h s m c ≡ false → RefusedByReply h s m c x
   by-row t f =
       let row = judged s (code c) (table h s m c) in
       let k = fate-kept h s m c t in
       let q = row-refused h s m c (row-alarm t f) in
-      let e : fateOf h s m c ≡ refused s (row .alarm) = k ∙ q .1 in
+      let e : fateOf h s m c ≡ refused s (row .alarm) (row .place) = k ∙ q .1 in
       let seen : alarmIn (x .reply) ≡ row .alarm = alarm-is ∙ ap (λ (g : Fate). g .alarm) k in
-      by-fate (refused s (row .alarm)) e (refused-body (row .alarm)) (refused-memory (row .alarm))
+      let place : x .answer .place ≡ row .place = ap (λ (l : Left). l .answer .place) is ∙ ap (λ (g : Fate). g .place) k in
+      by-fate (refused s (row .alarm) (row .place)) e (refused-body (row .alarm) (row .place)) (refused-memory (row .alarm) (row .place))
       (λ u. true-not-false (sym u ∙ t))
       (λ u. (
         λ z. row-alarm t f (sym seen ∙ z),
-        state-is (refused s (row .alarm)) e ∙ ap (λ (n : ℕ). stateAfter s (mn c) (refused s n .changes)) (sym seen),
+        state-is (refused s (row .alarm) (row .place)) e ∙ ap₂ (λ (n p : ℕ). stateAfter s (mn c) (refused s n p .changes)) (sym seen) (sym place),
       ))
 
 pub refused-on-the-wire : RefusedOnTheWire

@@ -18,7 +18,7 @@ use Rattle.link.proofs.Back.{read-back, read-valid}
 use Rattle.machine.specs.Outcomes.{outcomeOf}
 use Rattle.sheet.specs.Walk.{verdictOf}
 use Rattle.sheet.specs.declared.walk.Layout.{Layout}
-use Rattle.slave.specs.Answers.{told, onState}
+use Rattle.slave.specs.Answers.{onState}
 use Rattle.slave.specs.Exchange.{Left, exchanged, exchangeOf}
 use Rattle.slave.proofs.Order.{on-valid, on-state}
 use Rattle.replay.specs.Replay.{Replayed, replayed, replayOf}
@@ -49,9 +49,9 @@ module _ (sheet state memory command reply : List ℕ) (lay : Layout) (st : Link
   answers : exchangeOf sheet state memory command reply ≡ exchanged sheet lay st memory command
   answers = is-exchanged sheet state memory command reply lay (p .valid) st (p .held) (p .whole) asked lent (p .on)
 
-  answered-zero : exchangeOf sheet state memory command reply .answer ≡ told 0 0
+  answered-zero : exchangeOf sheet state memory command reply .answer .number ≡ 0
   unfolding exchanged
-  answered-zero = ap (λ (x : Left). x .answer) answers
+  answered-zero = ap (λ (x : Left). x .answer .number) answers
 
   pub again : Playable sheet (exchangeOf sheet state memory command reply .state) (exchangeOf sheet state memory command reply .memory) lay
       (outcomeOf sheet lay st (commandOf command) .next)

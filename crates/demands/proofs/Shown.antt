@@ -19,7 +19,8 @@ use Rattle.law.specs.Table.{Check, check, Row, table, parameter, address, n}
 use Rattle.law.specs.Exchange.{fate, code, missed, lost, checked, judged, fateOf}
 use Rattle.law.proofs.Laid.{when-yes, when-no}
 use Rattle.demands.specs.Writes.{cellAt}
-use Rattle.demands.proofs.Fates.{Holds, doneRow}
+use Rattle.demands.specs.Places.{Holds}
+use Rattle.demands.proofs.Fates.{doneRow}
 
 -- two memories agree where the cells are readable
 abbrev pub AgreeShown : List Cell → List ℕ → List ℕ → Type 0
@@ -79,8 +80,8 @@ judged-same s code (r ∷ rs) (q ∷ qs) (t, ts) =
     λ i. when (eqb code (t .code i)) (first i) (rest i)
 
 -- two reads of the same octets
-reads-alike : (echo : Piece) (from : ℕ) {x y : List ℕ} → x ≡ y → fate 0 [] (echo ∷ piece from x ∷ []) [] ≡ fate 0 [] (echo ∷ piece from y ∷ []) []
-reads-alike echo from e = ap (λ (z : List ℕ). fate 0 [] (echo ∷ piece from z ∷ []) []) e
+reads-alike : (echo : Piece) (from : ℕ) {x y : List ℕ} → x ≡ y → fate 0 0 [] (echo ∷ piece from x ∷ []) [] ≡ fate 0 0 [] (echo ∷ piece from y ∷ []) []
+reads-alike echo from e = ap (λ (z : List ℕ). fate 0 0 [] (echo ∷ piece from z ∷ []) []) e
 
 same-row : (r : Row) → Twin r r
 same-row r = record { code = refl; links = refl; checks = refl; done = λ all. refl }

@@ -20,6 +20,7 @@ use Rattle.demands.specs.Idle.{Demand2, KeepsSecrets, AgreesWhereReached
 use Rattle.demands.specs.LawBench.{BenchByLaw}
 use Rattle.demands.specs.Mapped.{ParametersAreMapped, MappedIsNotAsked}
 use Rattle.demands.specs.OnTheWire.{RefusedOnTheWire}
+use Rattle.demands.specs.Places.{FirstFailedIsTold, OctetsOfTheFields, NoFieldWasWrong, FirstWithoutTheRight, PlacesAreTheSame}
 use Rattle.demands.specs.Refused.{RefusedChangesNothing, StatesStayValid}
 use Rattle.demands.specs.Replays.{TracesHaveReplies, AgreesExactly, ReplayIsFold, CutInTwo, FormsJoin, ReplayCutInTwo, SecretsInReplay, OnlyAgreeingReach, ReplayPlays, RecordsAreAnswered, SecretsInWholeReplay, RefusedReplayWritesNothing}
 use Rattle.demands.specs.Sequences.{Call, runOf, History}
@@ -52,7 +53,7 @@ pub record SecondDemand : Type 1 where
   pub two-answers-are-one : OneAnswers
 
 -- "3. Two runs on memories that differ only in octets without the read right give the same answers, replies and states; afterwards the memories differ
--- nowhere that they did not differ before, and agree wherever an accepted write reached."
+-- nowhere that they did not differ before, and agree wherever an accepted write reached." Places are in the answers, by request 3 that of a refused command too.
 abbrev pub ThirdDemand : Type 0
 ThirdDemand = Demand3
 
@@ -77,6 +78,18 @@ pub record Request1 : Type 0 where
   pub the-identity-comes-back : IdentityComesBack
   -- of octets 2 and 3 nothing else shows: answers, states and memories are the same, and the replies differ in those two bits alone
   pub control-is-ignored : ControlIsIgnored
+
+-- Document 02, request 3, "Say which octet was wrong". Demands 1 to 3 and the bench cases above are of the machine that tells it.
+pub record Request3 : Type 0 where
+  -- "the first octet of the field that failed, in document 01's order": acceptance and place come from one list of checks
+  pub the-first-that-fails-is-told : FirstFailedIsTold
+  pub the-octets-of-the-fields : OctetsOfTheFields
+  -- "Alarms 8 and 12 and a failed watchdog have place 0."
+  pub no-field-was-wrong : NoFieldWasWrong
+  -- "For alarm 10 it is how many octets of the span come before the first that lacks the right."
+  pub the-first-without-the-right : FirstWithoutTheRight
+  -- "Demand 3 covers the place."
+  pub demand-3-covers-the-place : PlacesAreTheSame
 
 -- Document 02, request 6, "Replay the fitter's trace", of the replay as it is defined.
 pub record Request6 : Type 0 where

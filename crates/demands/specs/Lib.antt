@@ -10,6 +10,7 @@ pub mod Hidden
 pub mod Idle
 pub mod Identity
 pub mod Mapped
+pub mod Places
 pub mod Replays
 pub mod Unique
 pub mod Bench

@@ -7,7 +7,7 @@ use lib.Dec.{eqb, leb}
 use Rattle.law.specs.Words.{oneOf, octet}
 use Rattle.law.specs.Sheet.{Parameter, Sheet, WellFormed}
 use Rattle.law.specs.Memory.{cells, mapped, hasAll}
-use Rattle.law.specs.Table.{Check, check, Row, parameterOf, number, parameter, parameterChecks}
+use Rattle.law.specs.Table.{Check, check, rightsCheck, Row, parameterOf, number, parameter, parameterChecks}
 use Rattle.law.specs.Exchange.{checked}
 
 -- a parameter of this number is in the sheet
@@ -27,7 +27,7 @@ withMapped h state memory command right =
     ∷ check (eqb (octet command 6) (parameter h state memory command .size)) 9 6
     ∷ check (leb (octet command 6) (h .l - 8)) 9 6
     ∷ check (hasAll mapped (cells (h .regions)) (parameter h state memory command .address) (parameter h state memory command .size)) 9 4
-    ∷ check (hasAll right (cells (h .regions)) (parameter h state memory command .address) (parameter h state memory command .size)) 10 0
+    ∷ rightsCheck right (cells (h .regions)) (parameter h state memory command .address) (parameter h state memory command .size)
     ∷ []
 
 -- of a valid sheet, a row judged with that check is judged the same without it: for every state, memory, command and right, and whatever the row does

@@ -51,7 +51,7 @@ ReplayPlays =
 -- each call of a run was answered 0
 abbrev pub EachAnswered : List Left → Type 0
 EachAnswered [] = Unit {0}
-EachAnswered (x ∷ xs) = (x .answer ≡ told 0 0) × EachAnswered xs
+EachAnswered (x ∷ xs) = (x .answer .number ≡ 0) × EachAnswered xs
 
 -- and our machine answers each of the records with a reply of its own: none agrees because its exchange was refused
 abbrev pub RecordsAreAnswered : Type 0

@@ -7,7 +7,7 @@ use Prim.Native.Nat.{ℕ, zero, suc, _+_, _/_, _%_, _≤_}
 use native.Mathlib.Omega.{arith}
 use borrow.Author.Tests.{ne-eqb}
 use lib.Dec.{eqb}
-use lib.ListN.{length, getD}
+use lib.ListN.{length}
 use Rattle.octets.specs.Pick.{pick}
 use Rattle.octets.proofs.Cases.{eq-or-ne}
 use Rattle.frame.specs.Fields.{commandOf}
@@ -15,11 +15,11 @@ use Rattle.frame.proofs.Bodies.{quiet-at}
 use Rattle.frame.proofs.Kept.{quiet-keeps}
 use Rattle.frame.proofs.Named.{named, command-named, Tells, whole-at}
 use Rattle.law.proofs.Layouts.{layoutFor}
-use Rattle.law.specs.Words.{when, oneOf, Piece, piece, laid}
+use Rattle.law.specs.Words.{when, oneOf, Piece, laid}
 use Rattle.law.specs.Sheet.{Sheet}
 use Rattle.law.specs.State.{link}
 use Rattle.law.specs.Memory.{readable, writable}
-use Rattle.law.specs.Table.{check, Row, row, table}
+use Rattle.law.specs.Table.{check, Row, table}
 use Rattle.law.specs.Exchange.{Fate, fate, code, mn, refused, checked, judged, lost as lostCycle, fateOf}
 use Rattle.link.specs.Steps.{followsOf, lost, synced, dropped}
 use Rattle.link.specs.Stored.{octetsOf}

@@ -1,13 +1,12 @@
 -- Each row of the table: what the machine does for its code.
-use mathlib.Core.Bool.{Bool, true, false, not, _&&_, _||_}
+use mathlib.Core.Bool.{Bool, true, false, not}
 use mathlib.Core.Path.{_≡_, refl, sym, ap, ap₂, subst, _∙_}
 use mathlib.Core.List.{List, [], _∷_, map}
-use Prim.Native.Nat.{ℕ, _+_, _-_, _*_, _%_, _≤_}
+use Prim.Native.Nat.{ℕ, _+_, _*_, _≤_}
 use native.Mathlib.Omega.{arith}
 use borrow.Author.Tests.{leb-true, eqb-true}
-use lib.Dec.{eqb, leb, ltb}
-use lib.ListN.{length, getD, take, drop, length-take, length-drop}
-use Rattle.octets.specs.Numbers.{le2At, le4At}
+use lib.Dec.{eqb, ltb}
+use lib.ListN.{length, take, drop, length-take, length-drop}
 use Rattle.octets.specs.Parts.{part, putAt}
 use Rattle.octets.specs.Pick.{pick}
 use Rattle.frame.specs.Body.{dataFrom, memoryAfter}
@@ -20,7 +19,7 @@ use Rattle.law.proofs.Layouts.{layoutFor}
 use Rattle.law.specs.Words.{when, oneOf, Piece, piece, laid}
 use Rattle.law.specs.Sheet.{Item as Ident, Sheet}
 use Rattle.law.specs.State.{link}
-use Rattle.law.specs.Memory.{cells, stored, held, hasAll, hasBefore, mapped}
+use Rattle.law.specs.Memory.{cells, stored, held, hasAll, mapped}
 use Rattle.law.specs.Table.{Check, check, rightsCheck, Row, row, table, parameterChecks as paramChecks, memoryChecks as memChecks, number, parameter as param, item as ident, count, address, n as span, element}
 use Rattle.law.specs.Exchange.{Fate, fate, code, mn, refused, checked}
 use Rattle.link.specs.Steps.{cleared}
@@ -38,20 +37,20 @@ use Rattle.regions.specs.Search.{beforeOf}
 use Rattle.regions.specs.declared.Region.{Region}
 use Rattle.regions.specs.declared.Right.the-variants.{Mapped}
 use Rattle.regions.proofs.Spans.{span-mapped}
-use Rattle.sheet.specs.Entries.{parametersOf, soughtParameter}
+use Rattle.sheet.specs.Entries.{soughtParameter}
 use Rattle.sheet.specs.declared.entries.SoughtItem.{SoughtItem}
 use Rattle.sheet.specs.declared.entries.SoughtParameter.{SoughtParameter}
 use Rattle.law.proofs.Spans.{all-span, before-span}
 use Rattle.machine.specs.declared.words.Effect.{Effect}
 use Rattle.machine.specs.declared.words.Effect.the-variants.{Quiet, Identifies, Alarms, Connects}
 use Rattle.machine.specs.declared.words.Field.{Field}
-use Rattle.machine.specs.declared.words.Field.the-variants.{Whole, Number, Size, Item, Count, Mode, Address, Version, ComMod, ComTime, Profile, Span}
+use Rattle.machine.specs.declared.words.Field.the-variants.{Number, Item, Address, Span}
 use Rattle.machine.specs.declared.words.Judgement.{Judgement}
 use Rattle.machine.specs.declared.words.Judgement.the-variants.{Refused, Accepted}
 use Rattle.machine.specs.declared.words.Outcome.{Outcome}
 use Rattle.law.proofs.Laid.{stored-none, laid-one, laid-two}
 use Rattle.law.proofs.Goes.{connect-goes, Goes, goes-kept, goes-latched, goes-cleared}
-use Rattle.law.proofs.Layouts.{asParameter, asRegion}
+use Rattle.law.proofs.Layouts.{asRegion}
 use Rattle.law.proofs.Fields.{less-not, none-not, two-octets, com-mod, com-mods, com-time, param-found, param-missing, four-octets, elements}
 use Rattle.law.proofs.World.{nth, pieceAt, dataPiece, written, World, mapped-is}
 

@@ -17,7 +17,6 @@ use Rattle.machine.specs.Spans.{rightOf, grantedOf, spanOf}
 use Rattle.machine.specs.declared.words.Carrier.{Carrier}
 use Rattle.machine.specs.declared.words.Effect.{Effect}
 use Rattle.machine.specs.declared.words.Field.the-variants.{Span}
-use Rattle.machine.specs.declared.words.Judgement.{Judgement}
 use Rattle.machine.specs.declared.words.Judgement.the-variants.{Refused, Accepted}
 use Rattle.machine.proofs.spans.span.Statement.{statement}
 use Rattle.machine.proofs.spans.span.Tie as tie
