@@ -113,6 +113,21 @@ static int was_executed(const struct replay *run, uint8_t link_before,
              && run->state.octets[T24_AT_LINK] == T24_LINK_ASYNC);
 }
 
+/* Which octet of the command was wrong, where our reply refuses it. */
+static void print_refused(const struct replay *run, const uint8_t *command,
+                          const uint8_t *ours, uint64_t answer)
+{
+    const uint32_t alarm = t24_reply_alarm(ours);
+    char words[256];
+
+    if (alarm == T24_ALARM_NONE)
+        return;
+    t24_refused_command_words(run->sheet.octets, run->sheet.len,
+                              run->state.octets[T24_AT_LINK], command, run->l,
+                              alarm, t24_place(answer), words, sizeof words);
+    printf("ours is refused: %s\n", words);
+}
+
 /* State and memory stand as before the record, so the slave's reply to it is
  * got by giving it the command once more. */
 static int differs(struct replay *run, size_t record, size_t octet)
@@ -123,6 +138,7 @@ static int differs(struct replay *run, size_t record, size_t octet)
     const uint8_t link = run->state.octets[T24_AT_LINK];
     uint8_t ours[T24_L_MAX];
     char words[256];
+    uint64_t answer;
 
     printf("record %lu, at octet %lu of the trace, differs at octet %lu of its "
            "reply\n", (unsigned long)record, (unsigned long)at,
@@ -131,9 +147,10 @@ static int differs(struct replay *run, size_t record, size_t octet)
     printf("command: %s\n", words);
     t24_state_words(run->state.octets, words, sizeof words);
     printf("before:  %s\n", words);
-    t24_exchange(run->sheet.octets, run->sheet.len, run->state.octets,
-                 run->state.len, run->memory.octets, run->memory.len, command,
-                 run->l, ours, run->l);
+    answer = t24_exchange(run->sheet.octets, run->sheet.len, run->state.octets,
+                          run->state.len, run->memory.octets, run->memory.len,
+                          command, run->l, ours, run->l);
+    print_refused(run, command, ours, answer);
     print_octets("ours:  ", ours, run->l);
     print_octets("trace: ", theirs, run->l);
     print_marks(ours, theirs, run->l);

@@ -83,6 +83,19 @@ static int bring_up(struct host *host)
                                            host->state, sizeof host->state));
 }
 
+/* Says why a command was refused: the alarm, the octet and the field. */
+static int refused(const struct host *host, const char *name, uint32_t alarm,
+                   uint64_t answer)
+{
+    char words[256];
+
+    t24_refused_command_words(host->sheet, host->sheet_len,
+                              host->state[T24_AT_LINK], host->command, host->l,
+                              alarm, t24_place(answer), words, sizeof words);
+    fprintf(stderr, "%s refused: %s\n", name, words);
+    return 0;
+}
+
 /* One exchange; tells 1 if the command was accepted and executed. */
 static int exchange(struct host *host, const char *name)
 {
@@ -109,9 +122,7 @@ static int exchange(struct host *host, const char *name)
     if (alarm == T24_ALARM_NONE)
         return before != T24_LINK_SYNC
             || host->state[T24_AT_LINK] != T24_LINK_ASYNC;
-    fprintf(stderr, "%s refused: alarm %u, %s\n", name, (unsigned)alarm,
-            t24_alarm_words(alarm));
-    return 0;
+    return refused(host, name, alarm, answer);
 }
 
 /* A fresh command: all octets zero but the code. */

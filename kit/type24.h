@@ -132,6 +132,16 @@ uint64_t t24_enable(const uint8_t *sheet, size_t sheet_len,
  * T24_DONE says that a reply was built.  The command may still be refused in
  * it: see t24_reply_alarm() and t24_reply_communication_alarm().  Whose reply
  * it is among repeated commands, t24_reply_identity() tells.
+ * Beside T24_DONE the place says what was wrong (RULES 8.11); so a host asks
+ * t24_number(answer), and not answer, whether a reply was built.  It is for
+ *  - alarm 9 the first octet of the first field that is wrong: T24_PRM_AT_NUMBER
+ *    or _SIZE, T24_ID_AT_CODE or _SIZE, T24_ALM_AT_MODE, T24_CONNECT_AT_VERSION,
+ *    _COM_MOD, _COM_TIME or _PROFILE, T24_MEM_AT_ELEMENT, _COUNT or _ADDRESS;
+ *    but 0 for ALM_RD at L 8;
+ *  - alarm 10 how many octets of the span come before the first that lacks the
+ *    right, so that the span's address + place is the address of that one;
+ *  - alarms 8 and 12, a lost cycle and an accepted command 0.
+ * t24_refused_command_words() in type24_words.h says it in words.
  * Afterwards: on T24_DONE all L octets of the reply are written, the state is
  * the valid record for the next exchange, and of the memory the octets that an
  * accepted PRM_WR or MEM_WR names are written; else state, memory and reply are
@@ -174,7 +184,8 @@ static inline uint32_t t24_number(uint64_t answer)
     return answer & 0xFFFFFFFFu;
 }
 
-/* The place in an answer: for 11 to 17, 31 to 34 and after a replay, else 0. */
+/* The place in an answer: for 11 to 17, 31 to 34, after a replay, and after an
+ * exchange whose command has alarm 9 or 10; else 0. */
 static inline uint32_t t24_place(uint64_t answer)
 {
     const uint64_t place = answer >> 32;

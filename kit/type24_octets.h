@@ -113,6 +113,8 @@
  * Commands (RULES 7).  Checked in this order: a code that is not here
  * gives alarm 8, a link that is not named with it alarm 12, the first wrong
  * field, by the order of octets, alarm 9, a span without the right alarm 10.
+ * For alarm 9 the place of t24_exchange's answer is the constant of that field,
+ * as "place" says below; for alarm 10 it counts in the span (RULES 8.11).
  *
  * NOP: links 1, 2 and 3.  No field, no effect; body zeros.
  */
@@ -121,8 +123,8 @@
 /*
  * PRM_RD, PRM_WR: links 2 and 3; the whole span needs the right to read, or
  * that to write in this link.
- *   4-5   number of a parameter of the sheet
- *   6     its size, 1 to 56, and at most L - 8
+ *   4-5   number of a parameter of the sheet; place 4
+ *   6     its size, 1 to 56, and at most L - 8; place 6
  *   8..   PRM_WR: size octets to write
  * Body: 4 to 6 again; from 8 on the octets read or written.
  */
@@ -134,9 +136,9 @@
 
 /*
  * ID_RD: links 2 and 3.
- *   4     code of an ID item of the sheet
- *   5     offset, the item's first octet to read
- *   6-7   size, 1 to L - 8; offset + size at most the item's length
+ *   4     code of an ID item of the sheet; place 4
+ *   5     offset, the item's first octet to read; not checked alone
+ *   6-7   size, 1 to L - 8; offset + size at most the item's length; place 6
  * Body: 4 to 7 again; from 8 on the octets read.
  */
 #define T24_ID_RD 0x03
@@ -146,8 +148,9 @@
 #define T24_ID_AT_DATA 8
 
 /*
- * ALM_RD: links 2 and 3; L at least 16.  ALM_CLR: links 2 and 3; any L.
- *   4-5   mode, 0
+ * ALM_RD: links 2 and 3; L at least 16, else place 0.  ALM_CLR: links 2 and 3;
+ * any L.
+ *   4-5   mode, 0; place 4, whichever of the two is wrong
  * ALM_CLR makes both latches 0 (RULES 6.6); body zeros.
  * Body of ALM_RD: at 8 the command latch, at 9 the communication latch, both
  * as they were before this command.
@@ -166,10 +169,10 @@
 
 /*
  * CONNECT: link 1.
- *   4     version of the sheet
- *   5     com_mod: 0, T24_COM_SYNC, or T24_COM_SYNC + T24_COM_DUAL
- *   6     com_time, 1 to 255; with T24_COM_DUAL at least 2
- *   7     profile of the sheet
+ *   4     version of the sheet; place 4
+ *   5     com_mod: 0, T24_COM_SYNC, or T24_COM_SYNC + T24_COM_DUAL; place 5
+ *   6     com_time, 1 to 255; with T24_COM_DUAL at least 2; place 6
+ *   7     profile of the sheet; place 7
  * Body: 4 to 7 again.  The link becomes 3 with T24_COM_SYNC, else 2.
  */
 #define T24_CONNECT 0x0E
@@ -188,10 +191,10 @@
 
 /*
  * MEM_RD, MEM_WR: links 2 and 3; rights as for PRM_RD and PRM_WR.  At L 8 they
- * get alarm 9, for there is no octet of data.
- *   5     element: T24_ELEMENT_1, T24_ELEMENT_2 or T24_ELEMENT_4
- *   6-7   count of elements; n = count times 1, 2 or 4 is 1 to L - 12
- *   8-11  address of the first octet; all n octets lie in regions
+ * get alarm 9 at the count at the latest, for there is no octet of data.
+ *   5     element: T24_ELEMENT_1, T24_ELEMENT_2 or T24_ELEMENT_4; place 5
+ *   6-7   count of elements; n = count times 1, 2 or 4 is 1 to L - 12; place 6
+ *   8-11  address of the first octet; all n octets lie in regions; place 8
  *   12..  MEM_WR: n octets to write
  * Body: 5 to 11 again; from 12 on the n octets read or written.
  */

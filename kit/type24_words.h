@@ -1,7 +1,7 @@
 /*
  * type24_words.h - what a fitter wants to read, in words: why a call refused,
- * the fault of a sheet or a trace, a command, a status, a state record, an octet
- * of a reply.
+ * the fault of a sheet or a trace, a command, which octet of it was wrong, a
+ * status, a state record, an octet of a reply.
  *
  * A host includes this header where it wants them; type24.h comes with it, and
  * nothing of the C library is needed.  Functions with text and text_len write
@@ -14,6 +14,8 @@
  *   t24_command_words      a command                   type24_pdu_words.h
  *   t24_octet_words        an octet of a reply         type24_pdu_words.h
  *   t24_reply_octet_words  executed or not             type24_pdu_words.h
+ *   t24_field_words        a refused command's field   type24_field_words.h
+ *   t24_refused_command_words  why it was refused      type24_field_words.h
  *   t24_status_words       a reply's status            here
  *   t24_trace_words        an answer of t24_replay     here
  *   t24_refusal_words      an answer of any call       here
@@ -22,6 +24,7 @@
 #define TYPE24_WORDS_H
 
 #include "type24.h"
+#include "type24_field_words.h"
 #include "type24_pdu_words.h"
 #include "type24_sheet_words.h"
 #include "type24_state_words.h"

@@ -23,8 +23,9 @@ static void built(const uint8_t *reply)
     expect(ASK_EXCHANGE, T24_DONE);
 }
 
-/* A refused command: code, RWDT and status, then a zero body. */
-static void alarmed(unsigned rwdt, unsigned status_low, unsigned status_high)
+/* A refused command: code, RWDT and status, then a zero body; with a place. */
+static void alarmed(unsigned rwdt, unsigned status_low, unsigned status_high,
+                    unsigned place)
 {
     pdu reply = { 0 };
 
@@ -34,7 +35,8 @@ static void alarmed(unsigned rwdt, unsigned status_low, unsigned status_high)
     reply[3] = (uint8_t)status_high;
     if ((status_high & 15u) != 0)
         wanted(STATE)[T24_AT_COMMAND_ALARM] = status_high & 15u;
-    built(reply);
+    memcpy(wanted(REPLY), reply, sizeof reply);
+    expect(ASK_EXCHANGE, built_at(place));
 }
 
 static void cases_1_to_3(void)
@@ -49,9 +51,9 @@ static void cases_1_to_3(void)
     start(1, read4);
     built(read4_reply);
     start(2, read5);
-    alarmed(0, 0x05, 0x09);
+    alarmed(0, 0x05, 0x09, 6);
     start(3, read2x2);
-    alarmed(0, 0x05, 0x0A);
+    alarmed(0, 0x05, 0x0A, 2);
 }
 
 static void cases_4_to_7(void)
@@ -74,11 +76,11 @@ static void cases_4_to_7(void)
     wanted(STATE)[T24_AT_LINK] = T24_LINK_SYNC;
     wanted(STATE)[T24_AT_MN_KNOWN] = 1;
     wanted(STATE)[T24_AT_RSN] = 1;
-    alarmed(0x10, 0x05, 0x0A);
+    alarmed(0x10, 0x05, 0x0A, 0);
     start(6, read1);
-    alarmed(0, 0x05, 0x09);
+    alarmed(0, 0x05, 0x09, 8);
     start(7, code20);
-    alarmed(0, 0x05, 0x08);
+    alarmed(0, 0x05, 0x08, 0);
 }
 
 static void case_8(void)
@@ -90,7 +92,7 @@ static void case_8(void)
     start(8, size2);
     built(size2_reply);
     start(8, size1);
-    alarmed(0, 0x05, 0x09);
+    alarmed(0, 0x05, 0x09, 6);
 }
 
 static void give_link(const uint8_t *state)
@@ -108,7 +110,7 @@ static void case_9(void)
 
     start(9, time1);
     give_link(link1);
-    alarmed(0, 0x05, 0x09);
+    alarmed(0, 0x05, 0x09, 6);
     start(9, time2);
     give_link(link1);
     memcpy(wanted(STATE), dual, sizeof dual);
@@ -131,7 +133,7 @@ static void case_10(void)
     start(10, mn3);
     give_link(last3);
     memcpy(wanted(STATE), dropped, sizeof dropped);
-    alarmed(0, 0x05, 0xC0);
+    alarmed(0, 0x05, 0xC0, 0);
 }
 
 static void sheet_is(const uint8_t *sheet, size_t len, unsigned number,

@@ -63,11 +63,11 @@ static void start(unsigned link, unsigned code, const uint8_t *fields)
 }
 
 static void refused(unsigned link, unsigned code, const uint8_t *fields,
-                    unsigned alarm)
+                    unsigned alarm, unsigned place)
 {
     start(link, code, fields);
     wanted(REPLY)[3] = (uint8_t)(0xC0 + alarm);
-    expect(ASK_EXCHANGE, T24_DONE);
+    expect(ASK_EXCHANGE, built_at(place));
 }
 
 /* The head comes back; behind it stand octets of the sheet or the memory. */
@@ -105,8 +105,8 @@ static void memory_of(unsigned link, unsigned mode, unsigned width)
     reads(link, T24_MEM_RD, fields, 12, wanted(MEMORY) + PLACE, l - 12);
     writes(link, T24_MEM_WR, fields, 12);
     fields[2] = (uint8_t)(count + 1);
-    refused(link, T24_MEM_RD, fields, T24_ALARM_DATA);
-    refused(link, T24_MEM_WR, fields, T24_ALARM_DATA);
+    refused(link, T24_MEM_RD, fields, T24_ALARM_DATA, 6);
+    refused(link, T24_MEM_WR, fields, T24_ALARM_DATA, 6);
 }
 
 /* A parameter is as long as L allows, an item is cut off by its length or L. */
@@ -133,12 +133,12 @@ static void no_data(unsigned link)
     const uint8_t parameter[8] = { 7, 0, 1, 0 }, id[8] = { 5, 0, 1, 0 };
     const uint8_t mode[8] = { 0 }, memory[8] = { 0, T24_ELEMENT_1, 1, 0 };
 
-    refused(link, T24_PRM_RD, parameter, T24_ALARM_DATA);
-    refused(link, T24_PRM_WR, parameter, T24_ALARM_DATA);
-    refused(link, T24_ID_RD, id, T24_ALARM_DATA);
-    refused(link, T24_ALM_RD, mode, T24_ALARM_DATA);
-    refused(link, T24_MEM_RD, memory, T24_ALARM_DATA);
-    refused(link, T24_MEM_WR, memory, T24_ALARM_DATA);
+    refused(link, T24_PRM_RD, parameter, T24_ALARM_DATA, 6);
+    refused(link, T24_PRM_WR, parameter, T24_ALARM_DATA, 6);
+    refused(link, T24_ID_RD, id, T24_ALARM_DATA, 6);
+    refused(link, T24_ALM_RD, mode, T24_ALARM_DATA, 0);
+    refused(link, T24_MEM_RD, memory, T24_ALARM_DATA, 6);
+    refused(link, T24_MEM_WR, memory, T24_ALARM_DATA, 6);
 }
 
 /* The state wanted in another link: RWDT is MN on entry to link 3, else 0. */
@@ -157,8 +157,8 @@ static void connects(unsigned mode, unsigned link, unsigned dual)
     uint8_t fields[8] = { 0x30, 0, 3, 0 };
 
     fields[1] = (uint8_t)mode;
-    refused(T24_LINK_ASYNC, T24_CONNECT, fields, T24_ALARM_LINK);
-    refused(T24_LINK_SYNC, T24_CONNECT, fields, T24_ALARM_LINK);
+    refused(T24_LINK_ASYNC, T24_CONNECT, fields, T24_ALARM_LINK, 0);
+    refused(T24_LINK_SYNC, T24_CONNECT, fields, T24_ALARM_LINK, 0);
     start(T24_LINK_DISCONNECTED, T24_CONNECT, fields);
     memcpy(wanted(REPLY) + 4, fields, 4);
     enters(link, dual);
@@ -172,15 +172,15 @@ static void links(void)
     for (link = T24_LINK_DISCONNECTED; link <= T24_LINK_SYNC; link++) {
         start(link, T24_NOP, none);
         expect(ASK_EXCHANGE, T24_DONE);
-        refused(link, 0x04, none, T24_ALARM_CODE);
+        refused(link, 0x04, none, T24_ALARM_CODE, 0);
         start(link, T24_DISCONNECT, none);
         enters(T24_LINK_DISCONNECTED, 0);
     }
     connects(0x00, T24_LINK_ASYNC, 0);
     connects(0x02, T24_LINK_SYNC, 0);
     connects(0x06, T24_LINK_SYNC, 1);
-    refused(T24_LINK_DISCONNECTED, T24_SYNC_SET, none, T24_ALARM_LINK);
-    refused(T24_LINK_SYNC, T24_SYNC_SET, none, T24_ALARM_LINK);
+    refused(T24_LINK_DISCONNECTED, T24_SYNC_SET, none, T24_ALARM_LINK, 0);
+    refused(T24_LINK_SYNC, T24_SYNC_SET, none, T24_ALARM_LINK, 0);
     start(T24_LINK_ASYNC, T24_SYNC_SET, none);
     enters(T24_LINK_SYNC, 0);
 }

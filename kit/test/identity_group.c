@@ -11,72 +11,72 @@ static const uint8_t told_clear[4] = { 0x04, 0x44, 0x84, 0xC4 };
 static const uint8_t told_latched[4] = { 0x05, 0x45, 0x85, 0xC5 };
 
 /* On sheet P; octet 2 of the replies is for identity 0.  After MEM_WR the
- * memory begins with the octets told. */
+ * memory begins with the octets told.  The place is that of the answer. */
 static const struct exchanged {
     const char *name;
     uint8_t before[T24_STATE_LEN], command[16], reply[16], after[T24_STATE_LEN];
-    uint8_t memory[2];
+    uint8_t memory[2], place;
 } cases[] = {
     { "accepted read",
       { 0x11, 2, 16, 0, 1, 0, 0, 0, 0, 0 },
       { 0x1D, 0, 0, 0, 0, 0x11, 4, 0, 0, 0x10 },
       { 0x1D, 0, 4, 0, 0, 0x11, 4, 0, 0, 0x10, 0, 0, 0x0A, 0x0B, 0x0C, 0x0D },
-      { 0x11, 2, 16, 0, 1, 0, 0, 0, 0, 0 }, { 0x0A, 0x0B } },
+      { 0x11, 2, 16, 0, 1, 0, 0, 0, 0, 0 }, { 0x0A, 0x0B }, 0 },
     { "accepted write, a latch set",
       { 0x11, 2, 16, 0, 1, 0, 0, 0, 9, 0 },
       { 0x1E, 0, 0, 0, 0, 0x21, 1, 0, 0, 0x10, 0, 0, 0xB4, 0xB5 },
       { 0x1E, 0, 5, 0, 0, 0x21, 1, 0, 0, 0x10, 0, 0, 0xB4, 0xB5 },
-      { 0x11, 2, 16, 0, 1, 0, 0, 0, 9, 0 }, { 0xB4, 0xB5 } },
+      { 0x11, 2, 16, 0, 1, 0, 0, 0, 9, 0 }, { 0xB4, 0xB5 }, 0 },
     { "CONNECT, to link 3",
       { 0x11, 1, 16, 0, 0, 0, 0, 0, 0, 0 },
       { 0x0E, 7, 0, 0, 0x30, 6, 2, 0 }, { 0x0E, 7, 4, 0, 0x30, 6, 2, 0 },
-      { 0x11, 3, 16, 1, 2, 0, 0, 0, 0, 0 }, { 0x0A, 0x0B } },
+      { 0x11, 3, 16, 1, 2, 0, 0, 0, 0, 0 }, { 0x0A, 0x0B }, 0 },
     { "DISCONNECT, from link 3",
       { 0x11, 3, 16, 1, 2, 1, 15, 4, 0, 0 },
       { 0x0F, 0 }, { 0x0F, 0, 4, 0 },
-      { 0x11, 1, 16, 0, 0, 0, 0, 0, 0, 0 }, { 0x0A, 0x0B } },
+      { 0x11, 1, 16, 0, 0, 0, 0, 0, 0, 0 }, { 0x0A, 0x0B }, 0 },
     { "ALM_CLR, both latches set",
       { 0x11, 2, 16, 0, 1, 0, 0, 0, 9, 12 },
       { 0x06 }, { 0x06, 0, 4, 0 },
-      { 0x11, 2, 16, 0, 1, 0, 0, 0, 0, 0 }, { 0x0A, 0x0B } },
+      { 0x11, 2, 16, 0, 1, 0, 0, 0, 0, 0 }, { 0x0A, 0x0B }, 0 },
     { "NOP in step",
       { 0x11, 3, 16, 0, 1, 1, 3, 15, 0, 0 },
       { 0x00, 0xF4 }, { 0x00, 0x04, 4, 0 },
-      { 0x11, 3, 16, 0, 1, 1, 4, 0, 0, 0 }, { 0x0A, 0x0B } },
+      { 0x11, 3, 16, 0, 1, 1, 4, 0, 0, 0 }, { 0x0A, 0x0B }, 0 },
     { "alarm 8, in step",
       { 0x11, 3, 16, 0, 1, 1, 3, 5, 0, 0 },
       { 0x20, 0x54 }, { 0x20, 0x64, 5, 8 },
-      { 0x11, 3, 16, 0, 1, 1, 4, 6, 8, 0 }, { 0x0A, 0x0B } },
+      { 0x11, 3, 16, 0, 1, 1, 4, 6, 8, 0 }, { 0x0A, 0x0B }, 0 },
     { "alarm 8",
       { 0x11, 1, 16, 0, 0, 0, 0, 0, 0, 0 },
       { 0x20 }, { 0x20, 0, 5, 8 },
-      { 0x11, 1, 16, 0, 0, 0, 0, 0, 8, 0 }, { 0x0A, 0x0B } },
+      { 0x11, 1, 16, 0, 0, 0, 0, 0, 8, 0 }, { 0x0A, 0x0B }, 0 },
     { "alarm 9",
       { 0x11, 2, 16, 0, 1, 0, 0, 0, 0, 0 },
       { 0x1E, 0, 0, 0, 0, 0x11, 5, 0, 0, 0x10, 0, 0, 1, 2, 3, 4 },
       { 0x1E, 0, 5, 9 },
-      { 0x11, 2, 16, 0, 1, 0, 0, 0, 9, 0 }, { 0x0A, 0x0B } },
+      { 0x11, 2, 16, 0, 1, 0, 0, 0, 9, 0 }, { 0x0A, 0x0B }, 6 },
     { "alarm 10",
       { 0x11, 2, 16, 0, 1, 0, 0, 0, 0, 0 },
       { 0x1D, 0, 0, 0, 0, 0x11, 1, 0, 4, 0x10 }, { 0x1D, 0, 5, 10 },
-      { 0x11, 2, 16, 0, 1, 0, 0, 0, 10, 0 }, { 0x0A, 0x0B } },
+      { 0x11, 2, 16, 0, 1, 0, 0, 0, 10, 0 }, { 0x0A, 0x0B }, 0 },
     { "alarm 12",
       { 0x11, 2, 16, 0, 1, 0, 0, 0, 0, 0 },
       { 0x0E, 0, 0, 0, 0x30, 0, 1, 0 }, { 0x0E, 0, 5, 12 },
-      { 0x11, 2, 16, 0, 1, 0, 0, 0, 12, 0 }, { 0x0A, 0x0B } },
+      { 0x11, 2, 16, 0, 1, 0, 0, 0, 12, 0 }, { 0x0A, 0x0B }, 0 },
     { "a lost cycle, with a write",
       { 0x11, 3, 16, 1, 2, 1, 3, 5, 0, 0 },
       { 0x1E, 0x53, 0, 0, 0, 0x11, 1, 0, 4, 0x10, 0, 0, 0x55 },
       { 0x1E, 0, 5, 0xC0 },
-      { 0x11, 2, 16, 0, 2, 0, 0, 0, 0, 12 }, { 0x0A, 0x0B } },
+      { 0x11, 2, 16, 0, 2, 0, 0, 0, 0, 12 }, { 0x0A, 0x0B }, 0 },
     { "a lost cycle, with an unknown code",
       { 0x11, 3, 16, 0, 1, 1, 3, 5, 8, 0 },
       { 0x20, 0x55 }, { 0x20, 0, 5, 0xC0 },
-      { 0x11, 2, 16, 0, 1, 0, 0, 0, 8, 12 }, { 0x0A, 0x0B } },
+      { 0x11, 2, 16, 0, 1, 0, 0, 0, 8, 12 }, { 0x0A, 0x0B }, 0 },
     { "alarm 9, behind a lost cycle",
       { 0x11, 2, 16, 0, 1, 0, 0, 0, 0, 12 },
       { 0x05, 0, 0, 0, 1 }, { 0x05, 0, 5, 0xC9 },
-      { 0x11, 2, 16, 0, 1, 0, 0, 0, 9, 12 }, { 0x0A, 0x0B } }
+      { 0x11, 2, 16, 0, 1, 0, 0, 0, 9, 12 }, { 0x0A, 0x0B }, 4 }
 };
 
 enum { CASES = sizeof cases / sizeof cases[0] };
@@ -105,7 +105,7 @@ static void exchange(const struct exchanged *one, unsigned low, unsigned high,
     memcpy(wanted(MEMORY), one->memory, sizeof one->memory);
     memcpy(wanted(REPLY), one->reply, 16);
     wanted(REPLY)[2] = (uint8_t)told(one, identity);
-    expect(ASK_EXCHANGE, T24_DONE);
+    expect(ASK_EXCHANGE, built_at(one->place));
 }
 
 void identity_comes_back(void)

@@ -153,6 +153,11 @@ int expect(enum which which, uint64_t answer)
     return call_and_compare(which, answer, 1, 1) && front_right;
 }
 
+uint64_t built_at(uint32_t place)
+{
+    return T24_DONE + ((uint64_t)place << 32);
+}
+
 long met(enum which which, unsigned number)
 {
     return answers[which][number];

@@ -32,6 +32,9 @@ uint8_t *wanted(enum role role);
 /* Takes what was wanted as given, so that the next call goes on from there. */
 void go_on(enum role role);
 
+/* An exchange's answer for a built reply, with the place that it tells. */
+uint64_t built_at(uint32_t place);
+
 /* Makes the call and compares answer, buffers and guards; tells 1 if right. */
 int expect(enum which which, uint64_t answer);
 

@@ -43,14 +43,15 @@ static void start(unsigned link, unsigned code)
     }
 }
 
-/* Without the right: alarm 10, a zero body, the latch, and nothing stored. */
-static void refused(unsigned link, unsigned code)
+/* Without the right: alarm 10, a zero body, the latch, and nothing stored; the
+ * place is that of the span's first octet without it. */
+static void refused(unsigned link, unsigned code, unsigned octet)
 {
     start(link, code);
     wanted(REPLY)[2] = 0x05;
     wanted(REPLY)[3] = T24_ALARM_RIGHTS;
     wanted(STATE)[T24_AT_COMMAND_ALARM] = T24_ALARM_RIGHTS;
-    expect(ASK_EXCHANGE, T24_DONE);
+    expect(ASK_EXCHANGE, built_at(octet));
 }
 
 static void accepted(unsigned link, unsigned code, unsigned place)
@@ -76,7 +77,7 @@ static void lacking(unsigned which, unsigned right, unsigned link, unsigned code
         label("parameter at", (long)place);
         give_sheet(rights, 0x1000 + place);
         if (touches)
-            refused(link, code);
+            refused(link, code, place < 4 * which ? 4 * which - place : 0);
         else
             accepted(link, code, place);
     }
@@ -110,5 +111,5 @@ void parameter_unmapped(void)
     expect(ASK_EXCHANGE, T24_SHEET_SPAN + ((uint64_t)34 << 32));
     label("the last four", 0);
     give_sheet(rights, 0x1000 + MEMORY_LEN - SIZE);
-    refused(T24_LINK_ASYNC, T24_PRM_RD);
+    refused(T24_LINK_ASYNC, T24_PRM_RD, 0);
 }

@@ -5,7 +5,9 @@
 #include <string.h>
 
 /* Writes, reads and alarms out of step, then in step; a write is the last.
- * State and memory are those behind the record; SN is the last reply's RSN. */
+ * State and memory are those behind the record; SN is the last reply's RSN.
+ * Both spans without the right lack it at their first octet, so the answers'
+ * places are 0. */
 static const struct {
     uint8_t command[16], reply[16], state[T24_STATE_LEN], memory[8];
 } script[RECORDS] = {
@@ -63,23 +65,24 @@ static const struct {
       { 0xB1, 0xB2, 0xC1, 0xC2, 0xE1, 0xE2, 0xE3, 0xE4 } }
 };
 
-/* At L 8 what needs a data area gets alarm 9; the memory stays as it was. */
+/* At L 8 what needs a data area gets alarm 9, at the size or the count, ALM_RD
+ * at 0; the memory stays as it was. */
 static const struct {
-    uint8_t reply[4], latch;
+    uint8_t reply[4], latch, place;
 } script_8[RECORDS] = {
-    { { 0x1E, 0x00, 5, 9 }, 9 },
-    { { 0x1D, 0x00, 5, 9 }, 9 },
-    { { 0x02, 0x00, 5, 9 }, 9 },
-    { { 0x77, 0x00, 5, 8 }, 9 },
-    { { 0x1D, 0x00, 5, 9 }, 9 },
-    { { 0x05, 0x00, 5, 9 }, 9 },
-    { { 0x0D, 0x06, 5, 0 }, 9 },
-    { { 0x00, 0x17, 5, 0 }, 9 },
-    { { 0x01, 0x28, 5, 9 }, 9 },
-    { { 0x1E, 0x39, 5, 9 }, 9 },
-    { { 0x06, 0x4A, 4, 0 }, 0 },
-    { { 0x0E, 0x5B, 5, 12 }, 12 },
-    { { 0x1E, 0x6C, 5, 9 }, 12 }
+    { { 0x1E, 0x00, 5, 9 }, 9, 6 },
+    { { 0x1D, 0x00, 5, 9 }, 9, 6 },
+    { { 0x02, 0x00, 5, 9 }, 9, 6 },
+    { { 0x77, 0x00, 5, 8 }, 9, 0 },
+    { { 0x1D, 0x00, 5, 9 }, 9, 6 },
+    { { 0x05, 0x00, 5, 9 }, 9, 0 },
+    { { 0x0D, 0x06, 5, 0 }, 9, 0 },
+    { { 0x00, 0x17, 5, 0 }, 9, 0 },
+    { { 0x01, 0x28, 5, 9 }, 9, 6 },
+    { { 0x1E, 0x39, 5, 9 }, 9, 6 },
+    { { 0x06, 0x4A, 4, 0 }, 0, 0 },
+    { { 0x0E, 0x5B, 5, 12 }, 12, 0 },
+    { { 0x1E, 0x6C, 5, 9 }, 12, 6 }
 };
 
 unsigned kind_of(unsigned l)
@@ -105,6 +108,7 @@ static void load_record(struct recording *kept, size_t at)
     if (bare) {
         memcpy(reply, script_8[at].reply, 4);
         kept->state[at + 1][T24_AT_COMMAND_ALARM] = script_8[at].latch;
+        kept->place[at] = script_8[at].place;
         memcpy(kept->memory[at + 1], memory_p, sizeof memory_p);
     } else {
         memcpy(reply, script[at].reply, 16);

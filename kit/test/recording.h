@@ -14,6 +14,8 @@ struct recording {
     /* before each record, and behind the last */
     uint8_t state[RECORDS + 1][T24_STATE_LEN];
     uint8_t memory[RECORDS + 1][8];
+    /* of the answer, where the record is exchanged */
+    uint8_t place[RECORDS];
 };
 
 /* The kind of trace records of this L. */

@@ -45,7 +45,7 @@ static void exchanged(void)
         give_noise(REPLY, kept.l);
         want_before(&kept, at + 1);
         memcpy(wanted(REPLY), command + kept.l, kept.l);
-        expect(ASK_EXCHANGE, T24_DONE);
+        expect(ASK_EXCHANGE, built_at(kept.place[at]));
         go_on(STATE);
         go_on(MEMORY);
     }

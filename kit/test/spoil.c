@@ -94,7 +94,7 @@ static void spoil_buffers(uint64_t answer, const uint8_t *sheet,
 {
     static unsigned built;
 
-    built += answer == T24_DONE;
+    built += t24_number(answer) == T24_DONE;
     if (spoil(9) && answer == T24_BAD_REPLY)
         reply[reply_len] = 0; /* the overrun that once was */
     if (spoil(10) && reply_len > 0)
@@ -103,11 +103,11 @@ static void spoil_buffers(uint64_t answer, const uint8_t *sheet,
         *(volatile uint8_t *)(size_t)sheet = sheet[0]; /* even the same octet */
     if (spoil(12) && command_len > 0)
         reply[0] = *(const volatile uint8_t *)(command + command_len);
-    if (spoil(13) && answer == T24_DONE && reply[0] == T24_MEM_RD)
+    if (spoil(13) && t24_number(answer) == T24_DONE && reply[0] == T24_MEM_RD)
         reply[reply_len - 1] ^= 0x80; /* an old octet behind the data */
-    if (spoil(14) && answer == T24_DONE && reply[0] == T24_MEM_WR)
+    if (spoil(14) && t24_number(answer) == T24_DONE && reply[0] == T24_MEM_WR)
         memory[memory_len - 1] ^= 1;
-    if (spoil(15) && answer == T24_DONE && built % 100 == 0)
+    if (spoil(15) && t24_number(answer) == T24_DONE && built % 100 == 0)
         reply[1] ^= 0x10; /* something kept from call to call */
 }
 
@@ -123,6 +123,25 @@ static void spoil_identity(uint8_t *reply, const uint8_t *command)
         reply[T24_REPLY_AT_STATUS] |= command[T24_COMMAND_AT_CONTROL] & 0x20;
 }
 
+/* Another octet told as the wrong one, or one told where none is wrong. */
+static uint64_t spoil_place(uint64_t answer, const uint8_t *reply,
+                            const uint8_t *command)
+{
+    const unsigned alarm = t24_reply_alarm(reply);
+    const uint64_t one = (uint64_t)1 << 32;
+
+    if (spoil(24) && alarm != T24_ALARM_NONE)
+        return T24_DONE; /* no place, as there once was none */
+    if (spoil(25) && alarm == T24_ALARM_RIGHTS && t24_place(answer) > 0)
+        return answer + one; /* the second octet without the right */
+    if (spoil(26) && alarm == T24_ALARM_CODE)
+        return answer + T24_COMMAND_AT_WDT * one;
+    if (spoil(27) && alarm == T24_ALARM_DATA && t24_place(answer) == 4
+        && command[5] != 0 && command[4] == 0)
+        return answer + one; /* a mode or number told at its second octet */
+    return answer;
+}
+
 uint64_t __wrap_t24_exchange(const uint8_t *sheet, size_t sheet_len,
                              uint8_t *state, size_t state_len,
                              uint8_t *memory, size_t memory_len,
@@ -135,13 +154,15 @@ uint64_t __wrap_t24_exchange(const uint8_t *sheet, size_t sheet_len,
 
     if (spoil_order(memory_len, command_len, reply_len, answer))
         answer = T24_BAD_REPLY;
-    if (spoil(16) && answer == T24_DONE && state[T24_AT_LAST_MN] == 15)
+    if (spoil(16) && t24_number(answer) == T24_DONE
+        && state[T24_AT_LAST_MN] == 15)
         state[T24_AT_LAST_MN] = 14; /* 15 to 0 then looks like a lost cycle */
-    if (answer == T24_DONE)
+    if (t24_number(answer) == T24_DONE)
         spoil_identity(reply, command);
     spoil_buffers(answer, sheet, memory, memory_len, command, command_len,
                   reply, reply_len);
-    return answer;
+    return t24_number(answer) == T24_DONE ? spoil_place(answer, reply, command)
+                                          : answer;
 }
 
 uint64_t __wrap_t24_replay(const uint8_t *sheet, size_t sheet_len,

@@ -102,7 +102,7 @@ test_that_tests_fail() {
     $HAND -static $SOURCES spoil.c $HAND_LIB $(wraps) -o "$work/spoiled"
     export SPOIL=0
     hand "$work/spoiled" stop >"$work/out" || fail "unspoiled, yet fails"
-    for number in 1 2 3 4 5 6 7 8 9 10 11 12 13 14 15 16 17 18 19 20 21 22 23; do
+    for number in 1 2 3 4 5 6 7 8 9 10 11 12 13 14 15 16 17 18 19 20 21 22 23 24 25 26 27; do
         SPOIL=$number
         must_fail "spoil $number" FAILED hand "$work/spoiled" stop
     done
