@@ -36,6 +36,13 @@ static const struct group groups[] = {
     { "commands: every code at every L", command_codes },
     { "parameters: the right alone", parameter_rights },
     { "parameters: fault 17", parameter_unmapped },
+    { "places: alarm 9, each field of each command", wrong_octets },
+    { "places: each bound met, and no place", right_octets },
+    { "places: alarm 9 at every L", wrong_at_every_l },
+    { "places: alarms 8 and 12, a lost cycle", wrong_without_place },
+    { "places: alarm 10, mixed rights", lacking_mixed },
+    { "places: alarm 10, each octet of a span", lacking_each_octet },
+    { "places: alarm 10, or alarm 9 at the address", lacking_or_unmapped },
     { "identity: comes back in every reply", identity_comes_back },
     { "identity: other bits of control ignored", identity_others_ignored },
     { "identity: at every L", identity_every_l },
@@ -60,6 +67,9 @@ static const struct group groups[] = {
     { "words: commands", words_commands },
     { "words: traces", words_traces },
     { "words: refusals", words_refusals },
+    { "words: fields of refused commands", words_fields },
+    { "words: any code, alarm and place", words_fields_of_any },
+    { "words: refused commands", words_refused_commands },
     { "each number met at each call that has it", all_numbers_met }
 };
 

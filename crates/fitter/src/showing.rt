@@ -1,4 +1,4 @@
-// A difference: the record, its command, and the two replies with a mark below the first octet in which they differ.
+// A difference: the record, its command, why ours is refused if it is, and the two replies with a mark below the first octet in which they differ.
 
 // The marker line, below the digits of the octet.
 fn print_mark(octet: usize) {
@@ -28,7 +28,8 @@ fn print_ours(
     octet: usize,
     room: &mut [u8],
 ) {
-    slave::exchanging::exchange(sheet, state, memory, command, room);
+    let told = slave::exchanging::exchange(sheet, state, memory, command, room);
+    words::refused::print_refused(command, room, told.place);
     print_replies(room, reply, octet);
 }
 
