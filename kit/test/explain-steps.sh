@@ -148,32 +148,6 @@ trace: accepted; identity 1
 END
 }
 
-# The body of a command that was refused, or not executed, is no data.
-explain_bodies() {
-    explained 1 stdout trace sheet.bin state.bin memory.bin refused.bin <<'END'
-record 0, at octet 0 of the trace, differs at octet 12 of its reply
-command: 1D MEM_RD address 00001002, 6 octets; MN 0, SN 0
-before:  link 2 AsyncConnected, command latch 0, communication latch 0
-ours:  1D000509000000000000000000000000
-trace: 1D0005090000000000000000AABB0000
-                               ^^^^
-octet 12: the body of a refused or not executed command is zero
-ours:  alarm 9, a field of the command is wrong; a latch is set
-trace: alarm 9, a field of the command is wrong; a latch is set
-END
-    explained 1 stdout trace sheet.bin in-step.bin memory.bin lost.bin <<'END'
-record 0, at octet 0 of the trace, differs at octet 12 of its reply
-command: 1D MEM_RD address 00001002, 2 octets; MN 3, SN 0
-before:  link 3 SyncConnected, last MN 3, RSN 5, command latch 0, communication latch 0
-ours:  1D0005C0000000000000000000000000
-trace: 1D0005C00000000000000000AABB0000
-                               ^^^^
-octet 12: the body of a refused or not executed command is zero
-ours:  alarm 0, none; communication latch 12, a cycle was lost: MN did not follow; a latch is set
-trace: alarm 0, none; communication latch 12, a cycle was lost: MN did not follow; a latch is set
-END
-}
-
 # refused_trace WORDS SHEET STATE MEMORY TRACE
 refused_trace() {
     words=$1
@@ -261,10 +235,11 @@ explain_all() {
     explain_agreement
     explain_differences
     explain_bodies
+    explain_refused
     explain_refusals
     explain_usage
     explain_streams
-    echo "sheets, agreement, differences, bodies, refusals, usage, streams: ok"
+    echo "sheets, agreement, differences, bodies, refused commands, refusals, usage, streams: ok"
 }
 
 test_explain() {
@@ -272,6 +247,7 @@ test_explain() {
     cd "$work/explain"
     make_slaves
     make_traces
+    make_refused_traces
     cd "$kit/test"
     explain_all "as installed" "run $dist/x86_64/libexec/t24-explain"
     $CPP "$dist/example/explain.c" $LIB -o "$work/t24-explain"

@@ -17,6 +17,10 @@ make_sheets() {
     octets 01 08 30 00 00 >"$work/bare.bin"
     octets 01 10 30 00 02 00 10 00 00 04 00 00 00 09 00 >"$work/rights.bin"
     octets 01 10 30 00 02 00 10 00 00 04 00 00 00 01 00 >"$work/readonly.bin"
+    # 1000 alone may be written; 1000 is in no region
+    octets 01 10 30 00 02 00 10 00 00 01 00 00 00 07 \
+        02 01 10 00 00 01 00 00 00 05 00 >"$work/second.bin"
+    octets 01 10 30 00 02 01 10 00 00 04 00 00 00 07 00 >"$work/unmapped.bin"
     cat >"$work/p.want" <<'END'
 L 16, memory 8 octets
 CONNECT    0E000400300001000000000000000000
@@ -60,8 +64,10 @@ test_oven() {
     refused_with rights.bin "sheet refused: 14 at octet 4: region 1, rights 09: only bits 0 to 2 may be set"
     refused_with folder "oven: $work/folder: Is a directory"
     refused_with none.bin "oven: $work/none.bin: No such file or directory"
-    refused_with bare.bin "MEM_RD refused: alarm 9, a field of the command is wrong"
-    refused_with readonly.bin "MEM_WR refused: alarm 10, no right to part of the span"
+    refused_with bare.bin "MEM_RD refused: alarm 9 at octet 6, count: 0, or with its element more than L - 12 octets"
+    refused_with unmapped.bin "MEM_WR refused: alarm 9 at octet 8, address: an octet from it on is in no region"
+    refused_with readonly.bin "MEM_WR refused: alarm 10: octet 0 of the span, at address 00001000, lacks the right to be written out of step"
+    refused_with second.bin "MEM_WR refused: alarm 10: octet 1 of the span, at address 00001001, lacks the right to be written out of step"
     test_pkg_config
 }
 

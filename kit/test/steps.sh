@@ -133,6 +133,16 @@ test_that_words_fail() {
         's/(reply\[T24_REPLY_AT_STATUS\] >> 6) & 0x03u/(reply[T24_REPLY_AT_STATUS] >> 6) \& 0x01u/'
     wrong_words "an identity told in a command cut before it" type24_pdu_words.h \
         's/t24_field(&pdu, T24_COMMAND_AT_CONTROL, 1)/pdu.at[T24_COMMAND_AT_CONTROL]/'
+    wrong_words "a field told at the next octet" type24_field_words.h \
+        's/{ T24_CONNECT, T24_CONNECT_AT_COM_TIME,/{ T24_CONNECT, T24_CONNECT_AT_PROFILE,/'
+    wrong_words "a check that is ALM_RD's told of ALM_CLR" type24_field_words.h \
+        's/{ T24_ALM_RD, T24_COMMAND_AT_CODE/{ T24_ALM_CLR, T24_COMMAND_AT_CODE/'
+    wrong_words "the address of another parameter" type24_field_words.h \
+        's/t24_key(sheet + at) == number/t24_key(sheet + at) <= number/'
+    wrong_words "an address that the command has not" type24_field_words.h \
+        's/return command->len >= T24_MEM_AT_DATA;/return 1;/'
+    wrong_words "the right of the other link" type24_field_words.h \
+        's/link == T24_LINK_ASYNC/link == T24_LINK_SYNC/'
     wrong_words "a refused memory without its length" type24_words.h \
         's/t24_put_decimal(text, memory_len);/t24_put_decimal(text, wanted);/'
 }
@@ -159,3 +169,4 @@ test_linking_page() {
 . "$kit/test/oven-steps.sh"
 . "$kit/test/processor-steps.sh"
 . "$kit/test/explain-steps.sh"
+. "$kit/test/explain-refused-steps.sh"
