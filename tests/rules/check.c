@@ -21,7 +21,8 @@ struct octets {
 static struct octets sheet, state, memory, command, trace, reply, given, state_was, memory_was;
 static struct { char name[16]; struct octets octets; } named[NAMES];
 static struct octets *last;       /* what a line that begins with a blank goes on with */
-static int told, owes_state, owes_memory; /* answers in this block; not yet compared with what they were */
+static int told, owes_state, owes_memory, owes_place; /* answers in this block; what no line has told of the last */
+static uint32_t owed_place;       /* of the last reply's answer */
 static size_t room;               /* of the reply */
 static char call[32];
 static int numbers[64], codes[256], answers, examples;
@@ -67,7 +68,9 @@ static void settle(void)
         fail("the state has changed, and no line above says so");
     if (owes_memory && !same(&memory, &memory_was))
         fail("the memory has changed, and no line above says so");
-    owes_state = owes_memory = 0;
+    if (owes_place && owed_place != 0)
+        fail("the answer has a place, and no line above says so");
+    owes_state = owes_memory = owes_place = 0;
 }
 
 static uint64_t make_call(void)
@@ -129,16 +132,31 @@ static void expect_octets(const char *what, const struct octets *have)
 
 static void expect_reply(void)
 {
-    const uint64_t lengths = t24_lengths(sheet.at, sheet.len);
+    uint64_t answer;
 
     strcpy(call, "t24_exchange");
-    reply.len = t24_l(lengths);
-    if (make_call() != T24_DONE)
+    reply.len = t24_l(t24_lengths(sheet.at, sheet.len));
+    answer = make_call();
+    if (t24_number(answer) != T24_DONE)
         fail("no reply is built");
+    owed_place = t24_place(answer);
+    owes_place = 1;
     expect_octets("another reply", &reply);
     numbers[T24_DONE] = 1;
     if (reply.at[3] % 16 == T24_ALARM_NONE)
         codes[reply.at[0]] = 1;
+}
+
+/* The place of the reply above; where no line tells it, it is 0. */
+static void expect_place(const char *text)
+{
+    if (!owes_place)
+        fail("a place without a reply");
+    owes_place = 0;
+    if (!*text || text[strspn(text, "0123456789")] || strtoul(text, NULL, 10) != owed_place) {
+        fprintf(stderr, "rules: the library tells place %lu\n", (unsigned long)owed_place);
+        fail("another place");
+    }
 }
 
 static void use_sheet(const char *text)
@@ -191,6 +209,8 @@ static void take(const char *key, const char *text)
         room = strtoul(text, NULL, 10);
     } else if (!strcmp(key, "answer")) {
         expect_answer(text);
+    } else if (!strcmp(key, "place")) {
+        expect_place(text);
     } else {
         read_octets(text, &given);
         if (!strcmp(key, "reply")) {
