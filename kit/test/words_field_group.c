@@ -142,9 +142,12 @@ static void lacking(const char *words, const uint8_t *sheet, size_t sheet_len,
                     unsigned link, const uint8_t *command, size_t len,
                     uint32_t octet)
 {
+    const uint8_t *lent =
+        sheet == NULL ? NULL : place(SHEET, sheet, sheet_len, 1);
+
     label(words, (long)octet);
-    same(refused(place(SHEET, sheet, sheet_len, 1), sheet_len, link,
-                 place(COMMAND, command, len, 1), len, 10, octet), words);
+    same(refused(lent, sheet_len, link, place(COMMAND, command, len, 1), len, 10,
+                 octet), words);
 }
 
 /* The address of MEM commands is their own, that of a parameter the sheet's;

@@ -56,6 +56,9 @@ test_bodies() {
     expect "a trace with a body too many" 0 "" "" "$work/dist/bin/t24-hex" to body.bin
     input=/dev/null
     # shellcheck disable=SC2016 # the inner shell's words
+    expect "replayer on a refused command" 1 "ours is refused: alarm 9 at octet 6, count: 0, or with its element more than L - 12 octets" "" \
+        sh -c '"$@" >told; ended=$?; grep "^ours is" told; exit $ended' sh "$replayer" sheet.bin state.bin memory.bin body.bin
+    # shellcheck disable=SC2016 # the inner shell's words
     expect "replayer on a body of a refused command" 1 "octet 12: the body of a refused or not executed command is zero" "" \
         sh -c '"$@" >told; ended=$?; grep "^octet" told; exit $ended' sh "$replayer" sheet.bin state.bin memory.bin body.bin
 }
