@@ -97,12 +97,12 @@ static int has_row(unsigned code, uint32_t place)
 }
 
 /* There is a text for whatever is given, and a field for the rows alone. */
-static void any(unsigned code, unsigned alarm, uint32_t octet)
+static void any(const uint8_t *command, unsigned alarm, uint32_t octet)
 {
-    const uint8_t command[2] = { (uint8_t)code, 0 };
+    const unsigned code = command[0];
     const char *field = t24_field_words(code, alarm, octet);
-    const size_t told = refused(sheet_p, sizeof sheet_p, alarm % 5,
-                                place(COMMAND, command, 1, 1), 1, alarm, octet);
+    const size_t told = refused(sheet_p, sizeof sheet_p, alarm % 5, command, 1,
+                                alarm, octet);
 
     check(field != NULL && field[0] != '\0', "a field for anything");
     check(told > 0 && told < sizeof text && strlen(text) == told,
@@ -118,18 +118,21 @@ void words_fields_of_any(void)
                                     0xFFFFFFFFu };
     static const unsigned odd[] = { 256, 257, 285, 65535, 0xFFFFFFFFu };
     unsigned code, alarm;
+    uint32_t octet;
     size_t i;
 
-    for (code = 0; code < 256; code++)
-        for (alarm = 0; alarm < 16; alarm++) {
-            uint32_t octet;
+    for (code = 0; code < 256; code++) {
+        const uint8_t alone = (uint8_t)code;
+        const uint8_t *command = place(COMMAND, &alone, 1, 1);
 
-            label("code", (long)code);
+        label("code", (long)code);
+        for (alarm = 0; alarm < 16; alarm++) {
             for (octet = 0; octet <= T24_L_MAX; octet++)
-                any(code, alarm, octet);
+                any(command, alarm, octet);
             for (i = 0; i < sizeof far / sizeof far[0]; i++)
-                any(code, alarm, far[i]);
+                any(command, alarm, far[i]);
         }
+    }
     for (i = 0; i < sizeof odd / sizeof odd[0]; i++) {
         label("no code and no alarm", (long)i);
         check(strcmp(t24_field_words(odd[i], 9, 4), T24_NO_FIELD) == 0, "code");
