@@ -66,11 +66,12 @@ static void ask_enable(void)
     answer = t24_enable(sheet.octets, sheet.len, state, sizeof state);
 }
 
+/* The number alone: a place tells of a refused command, whose reply is built. */
 static void ask_exchange(void)
 {
-    answer = t24_exchange(sheet.octets, sheet.len, state, sizeof state, memory,
-                          memory_len, command, sizeof command, reply,
-                          sizeof reply);
+    answer = (uint32_t)t24_exchange(sheet.octets, sheet.len, state,
+                                    sizeof state, memory, memory_len, command,
+                                    sizeof command, reply, sizeof reply);
 }
 
 /* The writes wrote zeros over zeros, so the memory is as at the start. */

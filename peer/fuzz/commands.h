@@ -92,7 +92,7 @@ static void aim(struct input *in, const struct parts *parts, uint8_t *command)
     case 0x0E:
         command[4] = parts->sheet[2];
         command[5] = (uint8_t)(2 * (choice % 4));
-        command[7] = parts->sheet[3];
+        command[7] = choice < 0xE0 ? parts->sheet[3] : command[7];
         break;
     case 0x1D:
     case 0x1E:

@@ -124,10 +124,11 @@ static void exchange(const uint8_t *octets, size_t length, size_t reply_length)
     same("command", rig.command);
     same("reply", rig.reply);
     mark_call("exchange", peer);
-    if (peer != 0)
+    if ((uint32_t)peer != 0) /* a place tells of a command in a built reply */
         return;
     mark_exchange(octets, rig.reply[0].octets, length, link,
                   rig.state[0].octets[1]);
+    mark_place(octets[0], rig.reply[0].octets[3] & 15, peer >> 32);
     keep_record(octets, rig.reply[0].octets, length);
 }
 

@@ -48,4 +48,15 @@ static void mark_exchange(const uint8_t *command, const uint8_t *reply,
         fprintf(stderr, "mark read_L%u_link_%u\n", (unsigned)length, link);
 }
 
+/* Where a refused command was told wrong: alarm 9 by octet, and alarm 10 by
+ * whether the first octet lacks the right or a later one. */
+static void mark_place(uint8_t code, unsigned alarm, uint64_t place)
+{
+    if (telling() && alarm == 9)
+        fprintf(stderr, "mark code_%02X_place_%u\n", code, (unsigned)place);
+    if (telling() && alarm == 10)
+        fprintf(stderr, "mark code_%02X_lacking_%s\n", code,
+                place == 0 ? "first" : "later");
+}
+
 #endif

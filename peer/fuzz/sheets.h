@@ -115,8 +115,11 @@ static void make_plan(struct parts *parts, const struct plan *plan)
         put_region(parts, at, plan->length, index % 8 == 0 ? 7 : 7 - index % 4);
         at += plan->length + plan->gap;
     }
+    /* Every second one from the second region on, which cannot be read. */
     for (uint8_t index = 0; index < plan->parameters; index++)
-        put_parameter(parts, (uint16_t)(3 * index), plan->start, plan->size);
+        put_parameter(parts, (uint16_t)(3 * index),
+                      plan->start + index % 2 * (plan->length + plan->gap),
+                      plan->size);
     for (uint8_t index = 0; index < plan->items; index++)
         put_item(parts, (uint8_t)(5 * index), (uint8_t)(1 + index % 32), index);
 }

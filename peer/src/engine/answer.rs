@@ -53,6 +53,11 @@ impl Answer {
     }
 }
 
+/// A reply that was built, or a trace that agrees, with what its place tells.
+pub fn done_at(place: u32) -> Answer {
+    Answer { number: 0, place }
+}
+
 /// A refusal without a place.
 pub fn refuse(number: u32) -> Answer {
     Answer { number, place: 0 }

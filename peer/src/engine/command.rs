@@ -2,7 +2,7 @@
 
 use super::memory_mode;
 use super::octets::{number_16, number_32};
-use super::region::{find_span, mapped_span, Span, READ, WRITE_ASYNC, WRITE_SYNC};
+use super::region::{before_lacking, find_span, mapped_place, READ, WRITE_ASYNC, WRITE_SYNC};
 use super::sheet::Sheet;
 use super::state::{Link, State};
 use std::ops::Range;
@@ -15,6 +15,23 @@ pub const ALARM_DATA: u8 = 9;
 pub const ALARM_RIGHTS: u8 = 10;
 /// Code not allowed in this link.
 pub const ALARM_LINK: u8 = 12;
+
+/// A field that failed has its first octet as place (request 3), so a parameter's number and ALM's
+/// octets 4-5 as a whole have 4.
+const NUMBER_AT: u32 = 4;
+const ID_CODE_AT: u32 = 4;
+const ALARM_MODE_AT: u32 = 4;
+const VERSION_AT: u32 = 4;
+const COM_MOD_AT: u32 = 5;
+const COM_TIME_AT: u32 = 6;
+const PROFILE_AT: u32 = 7;
+const MEMORY_MODE_AT: u32 = 5;
+/// "For a count or size, with its product or sum, it is 6."
+const SIZE_AT: u32 = 6;
+/// "For an unmapped address, 8."
+const ADDRESS_AT: u32 = 8;
+/// "For ALM_RD at L 8, 0."
+const SHORT_PDU: u32 = 0;
 
 /// Octets before the data of a parameter or an ID item.
 const SHORT_HEAD: usize = 8;
@@ -90,18 +107,38 @@ pub enum Act<'a> {
     Disconnect,
 }
 
-/// What the command does, or its alarm.
-pub fn judge<'a>(sheet: &Sheet<'a>, state: &State, command: &[u8]) -> Result<Act<'a>, u8> {
-    let code = Code::of(command[0]).ok_or(ALARM_CODE)?;
+/// A refused command: its alarm, and the place that the exchange answers (request 3).
+#[derive(Clone, Copy, Debug, PartialEq, Eq)]
+pub struct Refused {
+    pub alarm: u8,
+    pub place: u32,
+}
+
+/// "Alarms 8 and 12 and a failed watchdog have place 0."
+fn refused(alarm: u8) -> Refused {
+    Refused { alarm, place: 0 }
+}
+
+/// Alarm 9 at "the first octet of the field that failed, in document 01's order".
+fn wrong(place: u32) -> Refused {
+    Refused {
+        alarm: ALARM_DATA,
+        place,
+    }
+}
+
+/// What the command does, or its alarm with the place.
+pub fn judge<'a>(sheet: &Sheet<'a>, state: &State, command: &[u8]) -> Result<Act<'a>, Refused> {
+    let code = Code::of(command[0]).ok_or(refused(ALARM_CODE))?;
     if !code.allowed_in(state.link) {
-        return Err(ALARM_LINK);
+        return Err(refused(ALARM_LINK));
     }
     match code {
         Code::Nop => Ok(Act::Nothing),
         Code::PrmRd => parameter(sheet, command, READ).map(Act::Read),
         Code::PrmWr => parameter(sheet, command, write_right(state.link)).map(Act::Write),
         Code::IdRd => identity(sheet, command).map(Act::Identify),
-        Code::AlmRd if command.len() < 16 => Err(ALARM_DATA),
+        Code::AlmRd if command.len() < 16 => Err(wrong(SHORT_PDU)),
         Code::AlmRd => current_alarm_mode(command).map(|()| Act::ShowLatches),
         Code::AlmClr => current_alarm_mode(command).map(|()| Act::ClearLatches),
         Code::SyncSet => Ok(Act::Synchronize),
@@ -121,66 +158,76 @@ fn write_right(link: Link) -> u8 {
     }
 }
 
-fn require(good: bool) -> Result<(), u8> {
+fn require(good: bool, place: u32) -> Result<(), Refused> {
     if good {
         Ok(())
     } else {
-        Err(ALARM_DATA)
+        Err(wrong(place))
     }
 }
 
-fn permitted(span: Span, right: u8) -> Result<usize, u8> {
-    if span.rights & right == 0 {
-        Err(ALARM_RIGHTS)
-    } else {
-        Ok(span.place)
+/// "For alarm 10 it is how many octets of the span come before the first that lacks the right."
+fn permitted(sheet: &Sheet, address: u32, length: usize, right: u8) -> Result<(), Refused> {
+    match before_lacking(sheet.regions(), address, length, right) {
+        Some(place) => Err(Refused {
+            alarm: ALARM_RIGHTS,
+            place,
+        }),
+        None => Ok(()),
     }
 }
 
 /// Its span is not asked for: a sheet with an unmapped one is refused, fault 17 (request 8).
-fn parameter(sheet: &Sheet, command: &[u8], right: u8) -> Result<Transfer, u8> {
+fn parameter(sheet: &Sheet, command: &[u8], right: u8) -> Result<Transfer, Refused> {
     let number = number_16(command, 4);
-    let parameter = sheet.find_parameter(number).ok_or(ALARM_DATA)?;
+    let parameter = sheet.find_parameter(number).ok_or(wrong(NUMBER_AT))?;
     let length = usize::from(parameter.size);
-    require(command[6] == parameter.size && length <= command.len() - SHORT_HEAD)?;
-    let span = mapped_span(sheet.regions(), parameter.address, length);
+    require(command[6] == parameter.size, SIZE_AT)?;
+    require(length <= command.len() - SHORT_HEAD, SIZE_AT)?;
+    permitted(sheet, parameter.address, length, right)?;
     Ok(Transfer {
-        place: permitted(span, right)?,
+        place: mapped_place(sheet.regions(), parameter.address),
         length,
         data: SHORT_HEAD,
         echo: 4..7,
     })
 }
 
-fn identity<'a>(sheet: &Sheet<'a>, command: &[u8]) -> Result<&'a [u8], u8> {
-    let item = sheet.find_item(command[4]).ok_or(ALARM_DATA)?;
+/// The offset alone is no check; it is the size that goes past the item with it.
+fn identity<'a>(sheet: &Sheet<'a>, command: &[u8]) -> Result<&'a [u8], Refused> {
+    let item = sheet.find_item(command[4]).ok_or(wrong(ID_CODE_AT))?;
     let offset = usize::from(command[5]);
     let size = usize::from(number_16(command, 6));
-    require(size >= 1 && offset + size <= item.len())?;
-    require(size <= command.len() - SHORT_HEAD)?;
+    require(size >= 1, SIZE_AT)?;
+    require(offset + size <= item.len(), SIZE_AT)?;
+    require(size <= command.len() - SHORT_HEAD, SIZE_AT)?;
     Ok(&item[offset..offset + size])
 }
 
-fn current_alarm_mode(command: &[u8]) -> Result<(), u8> {
-    require(number_16(command, 4) == 0)
+/// Octets 4 and 5 are one field, so its place is 4 where octet 5 alone is not zero too.
+fn current_alarm_mode(command: &[u8]) -> Result<(), Refused> {
+    require(number_16(command, 4) == 0, ALARM_MODE_AT)
 }
 
-fn connection(sheet: &Sheet, command: &[u8]) -> Result<(), u8> {
-    require(command[4] == sheet.version())?;
-    let mode = CommunicationMode::of(command[5]).ok_or(ALARM_DATA)?;
+fn connection(sheet: &Sheet, command: &[u8]) -> Result<(), Refused> {
+    require(command[4] == sheet.version(), VERSION_AT)?;
+    let mode = CommunicationMode::of(command[5]).ok_or(wrong(COM_MOD_AT))?;
     let least_com_time = if mode.dual { 2 } else { 1 };
-    require(command[6] >= least_com_time)?;
-    require(command[7] == sheet.profile())
+    require(command[6] >= least_com_time, COM_TIME_AT)?;
+    require(command[7] == sheet.profile(), PROFILE_AT)
 }
 
-fn memory(sheet: &Sheet, command: &[u8], right: u8) -> Result<Transfer, u8> {
-    let element = memory_mode::element_octets(command[5]).ok_or(ALARM_DATA)?;
+fn memory(sheet: &Sheet, command: &[u8], right: u8) -> Result<Transfer, Refused> {
+    let element = memory_mode::element_octets(command[5]).ok_or(wrong(MEMORY_MODE_AT))?;
     let length = usize::from(number_16(command, 6)) * element;
+    require(length >= 1, SIZE_AT)?;
     // At L 8 no length passes, so the address behind octet 7 is not looked at.
-    require(length >= 1 && length <= command.len().saturating_sub(MEMORY_HEAD))?;
-    let span = find_span(sheet.regions(), number_32(command, 8), length).ok_or(ALARM_DATA)?;
+    require(length <= command.len().saturating_sub(MEMORY_HEAD), SIZE_AT)?;
+    let address = number_32(command, 8);
+    let place = find_span(sheet.regions(), address, length).ok_or(wrong(ADDRESS_AT))?;
+    permitted(sheet, address, length, right)?;
     Ok(Transfer {
-        place: permitted(span, right)?,
+        place,
         length,
         data: MEMORY_HEAD,
         echo: 5..12,

@@ -16,6 +16,8 @@ const IDENTITY: u8 = 0xC0;
 /// What an exchange leaves behind, once it is stored.
 pub struct Outcome {
     pub state: State,
+    /// What a refused command's alarm is about; 0 of any other exchange.
+    pub place: u32,
     /// The first L octets are the reply.
     pub reply: [u8; LONGEST],
     pub write: Option<Transfer>,
@@ -37,6 +39,7 @@ pub fn decide(sheet: &Sheet, before: State, memory: &[u8], command: &[u8]) -> Ou
     let mn = command[1] & 15;
     let mut outcome = Outcome {
         state: before,
+        place: 0,
         reply: [0; LONGEST],
         write: None,
     };
@@ -47,8 +50,9 @@ pub fn decide(sheet: &Sheet, before: State, memory: &[u8], command: &[u8]) -> Ou
         match judge(sheet, &before, command) {
             Ok(act) => perform(act, &mut outcome, memory, command),
             Err(refused) => {
-                alarm = refused;
-                outcome.state = before.with_alarm(refused);
+                alarm = refused.alarm;
+                outcome.state = before.with_alarm(alarm);
+                outcome.place = refused.place;
             }
         }
     }

@@ -19,7 +19,7 @@ type Left = ([u8; 16], [u8; 10], [u8; 4]);
 fn after(state: [u8; 10], command: &[u8; 16]) -> Left {
     let (mut state, mut memory, mut reply) = (state, MEMORY, [0xEE; 16]);
     let answer = exchange(&SHEET, &mut state, &mut memory, command, &mut reply);
-    assert_eq!(answer, 0);
+    assert_eq!(answer as u32, 0);
     (reply, state, memory)
 }
 
@@ -91,7 +91,7 @@ fn trace_of(octet_2: u8) -> Vec<u8> {
         let asked = command(&[octets[0], octets[1], octet_2]);
         let mut reply = [0; 16];
         let answer = exchange(&SHEET, &mut state, &mut memory, &asked, &mut reply);
-        assert_eq!((answer, reply[2] & 0xC0), (0, octet_2 & 0xC0));
+        assert_eq!((answer as u32, reply[2] & 0xC0), (0, octet_2 & 0xC0));
         trace.push(0x22);
         trace.extend(asked);
         trace.extend(reply);

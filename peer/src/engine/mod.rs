@@ -1,5 +1,5 @@
 //! The slave on byte slices, as document 01 ("What we are to build") rules,
-//! with requests 1, 6 and 8 of document 02.
+//! with requests 1, 3, 6 and 8 of document 02.
 //!
 //! Each call answers number + 2^32 × place. A call with a number other than 0
 //! has written nothing, except a replay's difference (34), which has replayed
@@ -21,6 +21,8 @@ mod bench_cases;
 mod identity_tests;
 #[cfg(test)]
 mod parameter_tests;
+#[cfg(test)]
+mod place_tests;
 #[cfg(test)]
 mod replay_tests;
 #[cfg(test)]
@@ -55,7 +57,7 @@ pub fn enable(sheet: &[u8], state: &mut [u8]) -> u64 {
     tell(try_enable(sheet, state))
 }
 
-/// Builds the reply to one command.
+/// Builds the reply to one command; the place is that of a refused command (request 3).
 pub fn exchange(
     sheet: &[u8],
     state: &mut [u8],
@@ -63,7 +65,9 @@ pub fn exchange(
     command: &[u8],
     reply: &mut [u8],
 ) -> u64 {
-    tell(try_exchange(sheet, state, memory, command, reply))
+    match try_exchange(sheet, state, memory, command, reply) {
+        Ok(answer) | Err(answer) => answer.packed(),
+    }
 }
 
 /// Replays a trace of commands and replies (request 6 of document 02).
@@ -109,7 +113,7 @@ fn try_exchange(
     memory: &mut [u8],
     command: &[u8],
     reply: &mut [u8],
-) -> Result<(), Answer> {
+) -> Result<Answer, Answer> {
     let sheet = Sheet::read(sheet)?;
     let before = State::read(state, sheet.pdu_length()).ok_or_else(|| refuse(answer::STATE))?;
     let pdu_length = usize::from(sheet.pdu_length());
@@ -128,5 +132,5 @@ fn try_exchange(
     let outcome = exchange::decide(&sheet, before, memory, command);
     reply.copy_from_slice(&outcome.reply[..pdu_length]);
     outcome.store(state, memory, command);
-    Ok(())
+    Ok(answer::done_at(outcome.place))
 }

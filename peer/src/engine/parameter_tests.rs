@@ -40,7 +40,7 @@ fn after(sheet: &[u8], parts: &[Part], state: [u8; 10], head: [u8; 7]) -> (u8, [
     let (mut state, mut reply, mut command) = (state, [0xEE; 16], [0xD7; 16]);
     command[..7].copy_from_slice(&head);
     let answer = exchange(sheet, &mut state, &mut memory, &command, &mut reply);
-    assert_eq!(answer, 0);
+    assert_eq!(answer as u32, 0);
     let mut data = [0; 8];
     data.copy_from_slice(&reply[8..]);
     (reply[3] & 15, data, memory)

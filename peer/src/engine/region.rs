@@ -24,22 +24,18 @@ impl Region {
     }
 }
 
-/// Where a span lies in the memory, and the rights all its octets have.
-#[derive(Clone, Copy, Debug, PartialEq, Eq)]
-pub struct Span {
-    pub place: usize,
-    pub rights: u8,
-}
-
-/// The span of `size` octets (at least 1), if each of them is in a region.
+/// The place in the memory of a span of `size` octets (at least 1), if each of them is in a region.
 ///
 /// A sheet's regions rise, so one pass suffices, and a span that goes on in the
 /// next region goes on at the next place of the memory too.
-pub fn find_span(regions: impl Iterator<Item = Region>, address: u32, size: usize) -> Option<Span> {
+pub fn find_span(
+    regions: impl Iterator<Item = Region>,
+    address: u32,
+    size: usize,
+) -> Option<usize> {
     let mut wanted = u64::from(address);
     let end = wanted + size as u64;
     let mut place = None;
-    let mut rights = RIGHTS;
     let mut storage = 0;
     for region in regions {
         if wanted < region.start {
@@ -47,11 +43,9 @@ pub fn find_span(regions: impl Iterator<Item = Region>, address: u32, size: usiz
         }
         if wanted < region.end() {
             let first = *place.get_or_insert(storage + (wanted - region.start));
-            rights &= region.rights;
             wanted = region.end();
             if end <= wanted {
-                let place = first as usize;
-                return Some(Span { place, rights });
+                return Some(first as usize);
             }
         }
         storage += region.length;
@@ -59,20 +53,31 @@ pub fn find_span(regions: impl Iterator<Item = Region>, address: u32, size: usiz
     None
 }
 
-/// The span of `size` octets that all are in regions, as those of a good sheet's parameter are.
+/// The place in the memory of an address that is in a region, as that of a good sheet's parameter is.
 ///
-/// Its place is behind all octets of memory whose addresses are lower.
-pub fn mapped_span(regions: impl Iterator<Item = Region>, address: u32, size: usize) -> Span {
+/// It is behind all octets of memory whose addresses are lower.
+pub fn mapped_place(regions: impl Iterator<Item = Region>, address: u32) -> usize {
     let start = u64::from(address);
-    let end = start + size as u64;
     let mut place = 0;
-    let mut rights = RIGHTS;
     for region in regions {
         place += start.saturating_sub(region.start).min(region.length);
-        if region.start < end && start < region.end() {
-            rights &= region.rights;
-        }
     }
-    let place = place as usize;
-    Span { place, rights }
+    place as usize
+}
+
+/// How many octets of a span that is in regions come before the first that lacks the right, if one does.
+///
+/// A sheet's regions rise, so the first that lacks it holds that octet, which is
+/// the region's first or, where the region begins before the span, the span's.
+pub fn before_lacking(
+    mut regions: impl Iterator<Item = Region>,
+    address: u32,
+    size: usize,
+    right: u8,
+) -> Option<u32> {
+    let start = u64::from(address);
+    let end = start + size as u64;
+    let touched = |region: &Region| region.start < end && start < region.end();
+    let lacking = regions.find(|region| touched(region) && region.rights & right == 0)?;
+    Some(lacking.start.saturating_sub(start) as u32)
 }

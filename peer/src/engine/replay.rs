@@ -1,6 +1,6 @@
 //! Replay of a trace (request 6 of document 02).
 
-use super::answer::{self, refuse, refuse_at, Answer};
+use super::answer::{self, done_at, refuse, refuse_at, Answer};
 use super::exchange::decide;
 use super::sheet::Sheet;
 use super::state::{Link, State};
@@ -93,7 +93,7 @@ pub fn replay(
         current = outcome.state;
         records += 1;
     }
-    Ok(refuse_at(0, records))
+    Ok(done_at(records as u32))
 }
 
 fn too_long(octets: usize) -> bool {

@@ -19,7 +19,7 @@ fn record(sheet: &[u8], kind: u8, state: [u8; 10], commands: &[Vec<u8>]) -> (Vec
     for command in commands {
         let mut reply = vec![0; command.len()];
         let answer = exchange(sheet, &mut state, &mut memory, command, &mut reply);
-        assert_eq!(answer, 0);
+        assert_eq!(answer as u32, 0);
         trace.push(kind);
         trace.extend(command);
         trace.extend(reply);

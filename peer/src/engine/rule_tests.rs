@@ -24,7 +24,7 @@ fn after(state: [u8; 10], octets: &[u8]) -> ([u8; 16], [u8; 10]) {
     let mut command = [0; 16];
     command[..octets.len()].copy_from_slice(octets);
     let answer = exchange(&sheet(), &mut state, &mut memory, &command, &mut reply);
-    assert_eq!(answer, 0);
+    assert_eq!(answer as u32, 0);
     (reply, state)
 }
 

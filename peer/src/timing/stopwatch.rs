@@ -51,10 +51,11 @@ impl<'a> Running<'a> {
     /// Nanoseconds of so many calls.
     fn batch(&mut self, calls: u64) -> u128 {
         let start = Instant::now();
-        let answers = (0..calls).fold(0, |all, _| all | self.call());
+        // A place tells of a refused command, whose reply is built and timed as any other.
+        let numbers = (0..calls).fold(0, |all, _| all | self.call() as u32);
         let elapsed = start.elapsed().as_nanos();
         assert!(
-            answers == 0,
+            numbers == 0,
             "a timed call was refused: {}",
             self.scene.name
         );

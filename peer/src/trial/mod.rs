@@ -8,6 +8,7 @@ pub mod directed;
 pub mod engines;
 pub mod guarded;
 pub mod layout;
+pub mod places;
 pub mod plan;
 pub mod probe;
 pub mod progress;
@@ -52,7 +53,7 @@ mod tests {
     fn an_engine_agrees_with_itself_and_all_rules_are_reached() {
         let mut rig = Rig::new(PEER);
         let outcome = compare(&mut rig, 20_000, 24);
-        assert!(outcome.is_ok());
+        assert_eq!(outcome.err().map(|found| found.to_string()), None);
         assert_eq!(rig.tally.gaps(), Vec::<String>::new());
     }
 

@@ -11,11 +11,18 @@ use crate::engine::memory_mode;
 /// Nothing, or the first difference.
 pub type Outcome = Result<(), Box<Difference>>;
 
+/// The alarm of an exchange, 0 for none, and its place.
+pub type Told = (u8, u64);
+
 /// One exchange, with old octets in the reply.
 pub fn exchange(rig: &mut Rig, command: &[u8]) -> Outcome {
+    lend_command(rig, command);
+    rig.call(Call::Exchange).map(|_| ())
+}
+
+fn lend_command(rig: &mut Rig, command: &[u8]) {
     rig.inputs.command = command.to_vec();
     rig.inputs.reply = command.iter().map(|&octet| old_octet(octet)).collect();
-    rig.call(Call::Exchange).map(|_| ())
 }
 
 /// Neither zero nor the command's octet, so that it is seen if it stays.
@@ -37,6 +44,25 @@ pub fn exchange_from(rig: &mut Rig, state: &[u8], command: &[u8]) -> Outcome {
     rig.inputs.state = state.to_vec();
     rig.inputs.memory = build::distinct_octets(rig.inputs.memory.len());
     exchange(rig, command)
+}
+
+/// The same, and both engines have to tell this alarm and place.
+pub fn expect_told(rig: &mut Rig, state: &[u8], command: &[u8], told: Told) -> Outcome {
+    rig.inputs.state = state.to_vec();
+    rig.inputs.memory = build::distinct_octets(rig.inputs.memory.len());
+    lend_command(rig, command);
+    rig.expect(Call::Exchange, told.1 << 32)?;
+    if rig.reply()[3] & 15 == told.0 {
+        return Ok(());
+    }
+    Err(unexpected(rig, state, "the alarm expected"))
+}
+
+/// The same with the WDT that the state asks for.
+pub fn expect_told_in_step(rig: &mut Rig, state: &[u8], command: &[u8], told: Told) -> Outcome {
+    let mut command = command.to_vec();
+    build::follow(&mut command, state);
+    expect_told(rig, state, &command, told)
 }
 
 /// The report of an exchange from this state on which both engines agreed against the rules.

@@ -37,7 +37,8 @@ impl Recorder {
         let mut reply = vec![0; command.len()];
         let (state, memory) = (&mut self.now_state, &mut self.now_memory);
         let answer = engine::exchange(sheet, state, memory, command, &mut reply);
-        if answer == 0 {
+        // A place tells of a refused command, which is recorded too.
+        if answer as u32 == 0 {
             self.trace.push(kind_of(command.len()));
             self.trace.extend(command);
             self.trace.extend(reply);

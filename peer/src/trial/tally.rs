@@ -2,6 +2,7 @@
 
 use super::call::{Call, Inputs};
 use super::commands::CODES;
+use super::places::Places;
 use super::states::{ASYNC, LINK_AT, SYNC};
 use crate::engine::memory_mode;
 use crate::engine::octets::{number_16, number_32};
@@ -11,7 +12,8 @@ use std::collections::BTreeMap;
 use std::fmt;
 use std::ops::Range;
 
-const NAMES: [&str; 11] = [
+/// The names of `CODES`.
+pub const NAMES: [&str; 11] = [
     "NOP",
     "PRM_RD",
     "PRM_WR",
@@ -77,6 +79,7 @@ pub struct Tally {
     numbers: BTreeMap<(Call, u32), u64>,
     /// Accepted commands over more than one region, by the codes that have a span.
     crossings: BTreeMap<u8, u64>,
+    places: Places,
 }
 
 impl Default for Tally {
@@ -87,6 +90,7 @@ impl Default for Tally {
             calls: BTreeMap::new(),
             numbers: BTreeMap::new(),
             crossings: BTreeMap::new(),
+            places: Places::default(),
         }
     }
 }
@@ -98,8 +102,9 @@ impl Tally {
         if call != Call::Lengths {
             *self.numbers.entry((call, answer as u32)).or_insert(0) += 1;
         }
-        if call == Call::Exchange && answer == 0 {
+        if call == Call::Exchange && answer as u32 == 0 {
             self.add_reply(before[LINK_AT], after, reply);
+            self.places.add(reply[0], reply[3] & 15, answer >> 32);
         }
     }
 
@@ -123,6 +128,11 @@ impl Tally {
         self.calls.values().sum()
     }
 
+    /// Refused commands of that code with that alarm and place.
+    pub fn refused_at(&self, code: u8, alarm: u8, place: u64) -> u64 {
+        self.places.count(code, alarm, place)
+    }
+
     /// Calls with that answer number.
     fn numbered(&self, call: Call, number: u32) -> u64 {
         self.numbers.get(&(call, number)).copied().unwrap_or(0)
@@ -141,6 +151,7 @@ impl Tally {
         for (identity, replies) in self.identities.iter().enumerate() {
             gaps.extend(replies.gaps(&identity_name(identity), &[1, 2, 3], &ALARMS));
         }
+        gaps.extend(self.places.gaps());
         gaps.extend(self.number_gaps());
         gaps
     }
@@ -267,6 +278,7 @@ impl fmt::Display for Tally {
                 "code {code:02X} accepted over more than one region: {count}"
             )?;
         }
+        write!(formatter, "{}", self.places)?;
         for (&(call, number), count) in &self.numbers {
             writeln!(formatter, "{call:?} with number {number}: {count}")?;
         }

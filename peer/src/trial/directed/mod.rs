@@ -3,13 +3,16 @@
 mod buffers;
 mod data;
 mod identities;
+mod lacking;
 mod limits;
 mod links;
 mod octets;
 mod parameters;
+mod places;
 mod sheets;
 mod states;
 mod traces;
+mod wrong;
 
 use super::probe::Outcome;
 use super::rig::Rig;
@@ -23,6 +26,9 @@ pub fn run(rig: &mut Rig) -> Outcome {
     parameters::run(rig)?;
     data::run(rig)?;
     octets::run(rig)?;
+    places::run(rig)?;
+    wrong::run(rig)?;
+    lacking::run(rig)?;
     limits::run(rig)?;
     sheets::run(rig)?;
     traces::run(rig)

@@ -45,7 +45,7 @@ fn packed(number: u64, place: u64) -> u64 {
     number | place << 32
 }
 
-/// Writes, reads, both links, an alarm, and a write as the last record.
+/// Writes, reads, both links, alarms without and with a place, and a write as the last record.
 fn record(plan: &Plan) -> Recorder {
     let sheet = plan.octets();
     let memory = build::distinct_octets(plan.memory_length());
@@ -57,6 +57,7 @@ fn record(plan: &Plan) -> Recorder {
         build::memory(plan, 0x1D, memory_mode::octet(1), 4, 7),
         build::parameter(plan, 0x02, 0x0107, 8),
         build::command(plan, 0x40),
+        build::alarm_mode(plan, 0x06, 1),
         build::alarm_mode(plan, 0x05, 0),
         write(0xFFFF_FFF2),
     ];
