@@ -29,5 +29,6 @@ pub fn one(
     if st.link == link::state::DISABLED {
         return layout.l;
     }
-    slave::exchanging::perform(sheet, layout, st, state, memory, command, theirs, room).at
+    let told = slave::exchanging::perform(sheet, layout, st, state, memory, command, theirs, room);
+    (told % 256) as u8
 }

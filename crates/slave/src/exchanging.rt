@@ -2,12 +2,11 @@
 use crate::answers::Answer;
 use link::state::LinkState;
 use link::stored::Stored;
-use machine::words::Field;
 use machine::words::Outcome;
 use sheet::walk::Layout;
 use sheet::walk::Verdict;
 ghost use mathlib.Core.Path.{_≡_};
-ghost use Prim.Native.Nat.{_≤_};
+ghost use Prim.Native.Nat.{_≤_, _/_, _%_};
 ghost use lib.ListN.{length};
 ghost use Rattle.frame.specs.Body.{replyOf};
 ghost use Rattle.frame.specs.Fields.{placeOf, commandOf};
@@ -34,6 +33,12 @@ fn refusal(layout: Layout, st: LinkState, memory: usize, command: usize, reply: 
     crate::answers::DONE
 }
 
+// What a command comes to, and the place of what is wrong in it.
+struct Built {
+    place: u8,
+    outcome: Outcome,
+}
+
 // The whole reply to a command, built over lent octets, and what the command comes to; memory and state stay.
 fn build(
     sheet: &[u8],
@@ -42,27 +47,24 @@ fn build(
     memory: &[u8],
     command: &[u8],
     reply: &mut [u8],
-) -> Outcome
+) -> Built
     requires { ⌜ Lent (now sheet) (now memory) (now command) (now reply) layout ⌝ }
-    ensures { λ r. ⌜ (r ≡ outcomeOf (now (sheet .entry)) layout st (commandOf (now (command .entry)))) × (now (reply .exit) ≡ replyOf (now (sheet .entry)) (now (memory .entry)) (now (command .entry)) (outcomeOf (now (sheet .entry)) layout st (commandOf (now (command .entry))))) ⌝ }
+    ensures { λ r. ⌜ (r .outcome ≡ outcomeOf (now (sheet .entry)) layout st (commandOf (now (command .entry)))) × (r .place ≡ placeOf (r .outcome .field)) × (now (reply .exit) ≡ replyOf (now (sheet .entry)) (now (memory .entry)) (now (command .entry)) (outcomeOf (now (sheet .entry)) layout st (commandOf (now (command .entry))))) ⌝ }
 {
     let c = frame::fields::command_of(command);
     let outcome = machine::outcome::outcome(sheet, layout, st, c);
+    let field = outcome.field;
+    let place = frame::fields::place_of(field);
     let effect = outcome.effect;
     let next = outcome.next;
     frame::head::head(reply, c.code, c.wdt, c.identity, outcome.alarm, next);
     frame::body::fill_body(effect, sheet, memory, command, reply);
-    outcome
-}
-
-// What a performed command tells: the field that a refusal is about, and the first octet at which the reply is not what is wanted.
-pub struct Done {
-    pub field: Field,
-    pub at: u8,
+    Built { place, outcome }
 }
 
 // The outcome of a command: the whole reply, and, where it begins with what is wanted of it, memory and state. An exchange wants nothing of it, a replay
-// the trace's reply.
+// the trace's reply. Told are the first octet at which the reply is not what is wanted, and 256 times the place of what is wrong in the command: one number,
+// since a struct goes through memory.
 pub fn perform(
     sheet: &[u8],
     layout: Layout,
@@ -72,21 +74,22 @@ pub fn perform(
     command: &[u8],
     wanted: &[u8],
     reply: &mut [u8],
-) -> Done
+) -> u16
     requires { ⌜ Ready (now sheet) (now state) (now memory) (now command) (now reply) layout st × (length (now wanted) ≤ layout .l) ⌝ }
-    ensures { λ d. ⌜ came (placeOf (d .field)) (performed (stepped (d .at) (now (state .exit)) (now (memory .exit))) (now (reply .exit))) ≡ cameOf (now (wanted .entry)) (now (state .entry)) (now (memory .entry)) (exchanged (now (sheet .entry)) layout st (now (memory .entry)) (now (command .entry))) ⌝ }
+    ensures { λ d. ⌜ came (d / 256) (performed (stepped (d % 256) (now (state .exit)) (now (memory .exit))) (now (reply .exit))) ≡ cameOf (now (wanted .entry)) (now (state .entry)) (now (memory .entry)) (exchanged (now (sheet .entry)) layout st (now (memory .entry)) (now (command .entry))) ⌝ }
 {
-    let outcome = build(sheet, layout, st, memory, command, reply);
-    let field = outcome.field;
+    let built = build(sheet, layout, st, memory, command, reply);
     let at = crate::wanted::differs(reply, wanted);
+    let told = at as u16 + 256 * (built.place as u16);
     if (at as usize) < wanted.len() {
-        return Done { field, at };
+        return told;
     }
+    let outcome = built.outcome;
     let effect = outcome.effect;
     let next = outcome.next;
     frame::body::store(effect, command, memory);
     link::stored::write(state, next);
-    Done { field, at }
+    told
 }
 
 // One exchange on lent octets of any lengths and contents.
@@ -111,7 +114,7 @@ pub fn exchange(
     if refused != 0 {
         return crate::answers::plain(refused);
     }
-    let done = perform(
+    let told = perform(
         sheet,
         layout,
         st,
@@ -121,9 +124,8 @@ pub fn exchange(
         &command[..0],
         reply,
     );
-    let field = done.field;
     Answer {
         number: crate::answers::DONE,
-        place: frame::fields::place_of(field) as u32,
+        place: (told / 256) as u32,
     }
 }

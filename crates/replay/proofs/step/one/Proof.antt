@@ -61,4 +61,4 @@ returns-3 c =
 pub one-spec : {M : Type 1} → statement M
 one-spec =
     tie.close (tie.spec (λ c κs. search needs) (λ c. search needs) (λ c. search needs) (λ c. search needs) returns (λ c. search needs) returns-2
-    perform-requires (λ c. search needs) (λ c. search needs) (λ c. search needs) returns-3)
+    perform-requires (λ c. search needs) (λ c. search needs) (λ c. search needs) (λ c. search needs) returns-3)

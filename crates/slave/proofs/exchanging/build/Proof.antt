@@ -17,28 +17,28 @@ outcome-requires c κs =
 
 head-requires : tie.Need-head-requires
 head-requires c κs =
-    let a = c .before .before .before .before .before .before .before .before .args in
-    let p = c .before .before .before .before .before .before .before .before .pre in
+    let a = c .before .before .before .before .before .before .before .before .before .args in
+    let p = c .before .before .before .before .before .before .before .before .before .pre in
     let l = length-least (a .sheet .now) (a .layout) (valid-sheet (a .sheet .now) (a .layout) (p .valid)) in
     omega (arith, p .lent)
 
 fill-body-requires : tie.Need-fill-body-requires
 fill-body-requires c κs =
-    let a = c .before .before .before .before .before .before .before .before .before .before .before .before .args in
-    lent-fits (a .sheet .now) (a .memory .now) (a .command .now) (a .reply .now) (a .layout) (a .st) (c .before .before .before .before .before .before .before .before .before .before .before .before .pre)
-    (c .before .before .before .before .before .before .before .command-of .result) (c .before .before .before .before .before .before .outcome .result) (c .before .before .before .head .last .0) (c .before .before .before .before .before .before .outcome .ensures) (c .before .before .before .head .kept .0)
+    let a = c .before .before .before .before .before .before .before .before .before .before .before .before .before .args in
+    lent-fits (a .sheet .now) (a .memory .now) (a .command .now) (a .reply .now) (a .layout) (a .st) (c .before .before .before .before .before .before .before .before .before .before .before .before .before .pre)
+    (c .before .before .before .before .before .before .before .before .command-of .result) (c .before .before .before .before .before .before .before .outcome .result) (c .before .before .before .head .last .0) (c .before .before .before .before .before .before .before .outcome .ensures) (c .before .before .before .head .kept .0)
 
 returns : tie.Need-returns
 returns c =
-    let a = c .before .before .before .before .before .before .before .before .before .before .before .before .before .before .before .args in
-    let p = c .before .before .before .before .before .before .before .before .before .before .before .before .before .before .before .pre in
-    let o = c .before .before .before .before .before .before .before .before .before .outcome .result in
-    let k = c .before .before .before .before .before .before .before .before .before .before .command-of in
-    let e = c .before .before .before .before .before .before .before .before .before .outcome .ensures ∙ ap (outcomeOf (a .sheet .now) (a .layout) (a .st)) (k .ensures) in
+    let a = c .before .before .before .before .before .before .before .before .before .before .before .before .before .before .before .before .args in
+    let p = c .before .before .before .before .before .before .before .before .before .before .before .before .before .before .before .before .pre in
+    let o = c .before .before .before .before .before .before .before .before .before .before .outcome .result in
+    let k = c .before .before .before .before .before .before .before .before .before .before .before .command-of in
+    let e = c .before .before .before .before .before .before .before .before .before .before .outcome .ensures ∙ ap (outcomeOf (a .sheet .now) (a .layout) (a .st)) (k .ensures) in
     let reply = built-reply (a .sheet .now) (a .memory .now) (a .command .now) (a .reply .now) o (k .result) (c .before .before .before .before .before .before .head .last .0) (c .before .before .fill-body .last .1 .1 .1 .1 .0)
     (k .ensures) (p .lent ∙ sym (p .asked)) (c .before .before .before .before .before .before .head .ensures) (c .before .before .fill-body .ensures) in
-    (e, reply ∙ ap (replyOf (a .sheet .now) (a .memory .now) (a .command .now)) e)
+    (e, c .before .before .before .before .before .before .before .before .before .place-of .ensures, reply ∙ ap (replyOf (a .sheet .now) (a .memory .now) (a .command .now)) e)
 
 pub build-spec : {M : Type 1} → statement M
 build-spec =
-    tie.close (tie.spec (λ c κs. search needs) outcome-requires head-requires fill-body-requires (λ c. search needs) returns)
+    tie.close (tie.spec (λ c κs. search needs) outcome-requires (λ c κs. search needs) head-requires fill-body-requires (λ c. search needs) returns)

@@ -1,6 +1,6 @@
 -- `slave::exchanging::perform` meets its contract: the reply is built, and where it begins with what is wanted, the write's octets enter the memory, the
 -- next state the record.
-use Prim.Native.Nat.{ℕ}
+use Prim.Native.Nat.{ℕ, _+_, _*_, _/_, _%_, _<_}
 use mathlib.Core.List.{List}
 use mathlib.Core.Path.{_≡_, sym, ap, _∙_}
 use native.Mathlib.Omega.{arith}
@@ -21,6 +21,13 @@ use Rattle.slave.proofs.Fits.{lent-fits, ready-lent}
 use Rattle.slave.proofs.exchanging.perform.Statement.{statement}
 use Rattle.slave.proofs.exchanging.perform.Tie as tie
 
+-- the two numbers of the one that is told
+place-told : (at place : ℕ) → at < 256 → (at + 256 * place) / 256 ≡ place
+place-told at place l = omega arith
+
+at-told : (at place : ℕ) → at < 256 → (at + 256 * place) % 256 ≡ at
+at-told at place l = omega arith
+
 differs-requires : tie.Need-differs-requires
 differs-requires c κs =
     let a = c .before .before .before .before .before .before .before .before .before .before .before .before .args in
@@ -32,43 +39,44 @@ differs-requires c κs =
 returns : tie.Need-returns
 unfolding steppedOf exchanged
 returns c =
-    let a = c .before .before .before .before .before .before .before .before .before .before .before .before .before .before .args in
-    let d = c .before .differs .result in
-    let reply = c .before .before .before .before .before .build .ensures .1 in
-    let e = c .before .differs .ensures ∙ ap (λ (x : List ℕ). differsAt x (a .wanted .now)) reply in
-    let step = ap (λ (n : ℕ). stepped n (a .state .now) (a .memory .now)) e
+    let a = c .before .before .before .before .before .before .before .before .before .before .before .before .before .before .before .args in
+    let b = c .before .before .before .before .before .before .build .ensures in
+    let d = c .before .before .differs .result in
+    let e = c .before .before .differs .ensures ∙ ap (λ (x : List ℕ). differsAt x (a .wanted .now)) (b .2) in
+    let step = ap (λ (n : ℕ). stepped n (a .state .now) (a .memory .now)) (at-told d (c .before .before .before .before .before .before .build .result .place) (omega arith) ∙ e)
     ∙ sym (pick-ne _ _ (λ z. let k : d ≡ length (a .wanted .now) = e ∙ z in let w : ⊥ = omega arith in w)) in
-    let place = ap (λ (x : Outcome). placeOf (x .field)) (c .before .before .before .before .before .build .ensures .0) in
-    λ i. came (place i) (performed (step i) (reply i))
+    let place = place-told d (c .before .before .before .before .before .before .build .result .place) (omega arith) ∙ b .1 ∙ ap (λ (x : Outcome). placeOf (x .field)) (b .0) in
+    λ i. came (place i) (performed (step i) (b .2 i))
 
 store-requires : tie.Need-store-requires
 store-requires c κs =
-    let a = c .before .before .before .before .before .before .before .before .before .before .before .before .before .before .before .before .args in
-    let p = c .before .before .before .before .before .before .before .before .before .before .before .before .before .before .before .before .pre .0 in
-    let o = c .before .before .before .before .before .before .before .build .result in
+    let a = c .before .before .before .before .before .before .before .before .before .before .before .before .before .before .before .before .before .before .args in
+    let p = c .before .before .before .before .before .before .before .before .before .before .before .before .before .before .before .before .before .before .pre .0 in
+    let o = c .before .before .before .before .before .before .before .before .before .build .result .outcome in
     let f = lent-fits (a .sheet .now) (a .memory .now) (a .command .now) (a .reply .now) (a .layout) (a .st) (ready-lent _ _ _ _ _ _ _ p)
-    (commandOf (a .command .now)) o (a .command .now) (c .before .before .before .before .before .before .before .build .ensures .0) (p .asked ∙ sym (p .lent)) in
+    (commandOf (a .command .now)) o (a .command .now) (c .before .before .before .before .before .before .before .before .before .build .ensures .0) (p .asked ∙ sym (p .lent)) in
     fits-stored (length (a .command .now)) (length (a .memory .now)) (length (a .sheet .now)) (o .effect) (f .1)
 
 returns-2 : tie.Need-returns-2
 unfolding steppedOf exchanged
 returns-2 c =
-    let a = c .before .before .before .before .before .before .before .before .before .before .before .before .before .before .before .before .before .before .before .before .before .before .before .args in
-    let o = c .before .before .before .before .before .before .before .before .before .before .before .before .before .before .build .result in
-    let q = c .before .before .before .before .before .before .before .before .before .before .before .before .before .before .build .ensures .0 in
-    let reply = c .before .before .before .before .before .before .before .before .before .before .before .before .before .before .build .ensures .1 in
-    let d = c .before .before .before .before .before .before .before .before .before .before .differs .result in
-    let found = c .before .before .before .before .before .before .before .before .before .before .differs .ensures in
-    let most = differs-most (c .before .before .before .before .before .before .before .before .before .before .before .before .before .before .build .last .1 .1 .1 .1 .1 .0) (a .wanted .now) in
-    let all : d ≡ length (a .wanted .now) = omega (arith, found, c .before .before .before .before .before .before .before .before .before .if1 .left) in
-    let e = found ∙ ap (λ (x : List ℕ). differsAt x (a .wanted .now)) reply in
-    let state = c .before .before .write .ensures ∙ written (a .state .now) (o .next) (read-valid _ _ _ (c .before .before .before .before .before .before .before .before .before .before .before .before .before .before .before .before .before .before .before .before .before .before .before .pre .0 .held) .0) ∙ ap (λ (x : Outcome). octetsOf (x .next)) q in
-    let memory = c .before .before .before .before .before .before .store .ensures ∙ ap (λ (x : Outcome). memoryAfter (x .effect) (a .command .now) (a .memory .now)) q in
-    let step = (λ i. stepped (e i) (state i) (memory i)) ∙ sym (pick-eq _ _ (sym e ∙ all)) in
-    let place = ap (λ (x : Outcome). placeOf (x .field)) q in
-    λ i. came (place i) (performed (step i) (reply i))
+    let a = c .before .before .before .before .before .before .before .before .before .before .before .before .before .before .before .before .before .before .before .before .before .before .before .before .before .args in
+    let o = c .before .before .before .before .before .before .before .before .before .before .before .before .before .before .before .before .build .result .outcome in
+    let b = c .before .before .before .before .before .before .before .before .before .before .before .before .before .before .before .before .build .ensures in
+    let d = c .before .before .before .before .before .before .before .before .before .before .before .before .differs .result in
+    let found = c .before .before .before .before .before .before .before .before .before .before .before .before .differs .ensures in
+    let most = differs-most (c .before .before .before .before .before .before .before .before .before .before .before .before .before .before .before .before .build .last .1 .1 .1 .1 .1 .0) (a .wanted .now) in
+    let all : d ≡ length (a .wanted .now) = omega (arith, found, c .before .before .before .before .before .before .before .before .before .before .if1 .left) in
+    let e = found ∙ ap (λ (x : List ℕ). differsAt x (a .wanted .now)) (b .2) in
+    let at = at-told d (c .before .before .before .before .before .before .before .before .before .before .before .before .before .before .before .before .build .result .place) (omega arith) in
+    let state = c .before .before .write .ensures ∙ written (a .state .now) (o .next) (read-valid _ _ _ (c .before .before .before .before .before .before .before .before .before .before .before .before .before .before .before .before .before .before .before .before .before .before .before .before .before .pre .0 .held) .0) ∙ ap (λ (x : Outcome). octetsOf (x .next)) (b .0) in
+    let memory = c .before .before .before .before .before .before .store .ensures ∙ ap (λ (x : Outcome). memoryAfter (x .effect) (a .command .now) (a .memory .now)) (b .0) in
+    let step = (λ i. stepped ((at ∙ e) i) (state i) (memory i)) ∙ sym (pick-eq _ _ (sym e ∙ all)) in
+    let place = place-told d (c .before .before .before .before .before .before .before .before .before .before .before .before .before .before .before .before .build .result .place) (omega arith) ∙ b .1 ∙ ap (λ (x : Outcome). placeOf (x .field)) (b .0) in
+    λ i. came (place i) (performed (step i) (b .2 i))
 
 pub perform-spec : {M : Type 1} → statement M
 perform-spec =
-    tie.close (tie.spec (λ c κs. search needs) differs-requires (λ c. search needs) (λ c. search needs) (λ c. search needs) returns store-requires
-    (λ c κs. search needs) (λ c. search needs) (λ c. search needs) (λ c. search needs) returns-2)
+    tie.close (tie.spec (λ c κs. search needs) differs-requires (λ c. search needs) (λ c. search needs) (λ c. search needs) (λ c. search needs)
+    (λ c. search needs) (λ c. search needs) (λ c. search needs) returns store-requires (λ c κs. search needs) (λ c. search needs) (λ c. search needs)
+    (λ c. search needs) returns-2)
