@@ -15,10 +15,9 @@ use Rattle.octets.proofs.Pick.{pick-yes, pick-no, pick-ne}
 use Rattle.law.specs.Words.{Every, From, InARow, Piece, piece, laid}
 use Rattle.law.specs.Sheet.{Region as Area, GoodRegion, room}
 use Rattle.law.specs.Memory.{Cell, cellsFrom, cells, stored, heldAt, held}
-use Rattle.machine.specs.Spans.{spanPlace}
 use Rattle.regions.specs.Apart.{Apart}
 use Rattle.regions.specs.Region.{holdsOf}
-use Rattle.regions.specs.Search.{At, Nowhere, spotOf, placeIn, beforeOf, spanHas, totalOf}
+use Rattle.regions.specs.Search.{At, Nowhere, spotOf, placeIn, beforeOf, spanHas, totalOf, spanPlace}
 use Rattle.regions.specs.declared.Region.{Region}
 use Rattle.regions.specs.declared.Right.the-variants.{Mapped}
 use Rattle.regions.proofs.Bounds.{holds-bounds}

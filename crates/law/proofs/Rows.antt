@@ -29,11 +29,11 @@ use Rattle.link.proofs.Facts.{Facts}
 use Rattle.machine.specs.Connecting.{connectOf}
 use Rattle.machine.specs.Judging.{parameterData, parameterOf, itemData, itemOf, alarmsOf, clearOf, elementOf, memoryOf}
 use Rattle.machine.specs.Outcomes.{counting, finished}
-use Rattle.machine.specs.Spans.{grantedOf, spanOf, spanPlace, moved, rightOf}
+use Rattle.machine.specs.Spans.{grantedOf, spanOf, moved, rightOf}
 use Rattle.machine.specs.declared.words.Carrier.{Carrier}
 use Rattle.machine.specs.declared.words.Carrier.the-variants.{Parameter, Memory}
 use Rattle.regions.specs.Region.{regionsOf, givesOf}
-use Rattle.regions.specs.Search.{beforeOf}
+use Rattle.regions.specs.Search.{beforeOf, spanPlace}
 use Rattle.regions.specs.declared.Region.{Region}
 use Rattle.regions.specs.declared.Right.the-variants.{Mapped}
 use Rattle.regions.proofs.Spans.{span-mapped}

@@ -9,8 +9,8 @@ use Rattle.law.specs.Words.{oneOf, Piece, piece}
 use Rattle.law.specs.Sheet.{Item as Ident, Sheet}
 use Rattle.law.specs.Memory.{Cell, cells, stored, held, hasAll, mapped}
 use Rattle.law.specs.Table.{Row, row, itemOf as identOf}
-use Rattle.machine.specs.Spans.{spanPlace}
 use Rattle.regions.specs.Region.{regionsOf, givesOf}
+use Rattle.regions.specs.Search.{spanPlace}
 use Rattle.regions.specs.declared.Right.the-variants.{Mapped}
 use Rattle.sheet.specs.Entries.{parametersOf, itemsOf, soughtItem}
 use Rattle.sheet.specs.declared.entries.Item.{Item}

@@ -5,7 +5,7 @@ use mathlib.Core.List.{List}
 use lib.Dec.{eqb}
 use Rattle.octets.specs.Pick.{pick}
 use Rattle.link.specs.declared.state.LinkState.{LinkState}
-use Rattle.regions.specs.Search.{spotOf, placeIn, beforeOf, spanHas}
+use Rattle.regions.specs.Search.{beforeOf, spanHas, spanPlace}
 use Rattle.regions.specs.declared.Region.{Region}
 use Rattle.regions.specs.declared.Right.{Right}
 use Rattle.regions.specs.declared.Right.the-variants.{Mapped, Read, WriteAsync, WriteSync}
@@ -25,10 +25,6 @@ rightOf true link = pick (eqb link 3) WriteSync WriteAsync
 unfoldable pub moved : Bool → Carrier → ℕ → ℕ → Effect
 moved false by place n = Reads by place n
 moved true by place n = Writes by place n
-
--- the place of a span in the memory is that of its first octet; an empty span has none
-abbrev pub spanPlace : List Region → ℕ → ℕ → ℕ
-spanPlace rs a n = pick (eqb n 0) 0 (placeIn (spotOf rs 0 a))
 
 -- n octets from address a on are asked to be read, or to be written: check 5, all there is to a parameter's span, since request 8. A refusal names the
 -- first octet that lacks the right

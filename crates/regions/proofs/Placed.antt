@@ -15,7 +15,7 @@ use Rattle.octets.proofs.Pick.{pick-eq, pick-ne}
 use Rattle.regions.specs.Apart.{Apart}
 use Rattle.regions.specs.Passed.{deniesOf}
 use Rattle.regions.specs.Region.{listed}
-use Rattle.regions.specs.Search.{spotOf, placeIn, beforeOf, reachOf}
+use Rattle.regions.specs.Search.{spotOf, placeIn, beforeOf, spanPlace, reachOf}
 use Rattle.regions.specs.declared.Region.{Region}
 use Rattle.regions.specs.declared.Right.{Right}
 use Rattle.regions.specs.declared.search.Reach.{Reach}
@@ -108,13 +108,20 @@ module _ (f : ℕ → Region) (n a : ℕ) where
         (omega (arith, g .2), q ∙ sym (ap placeIn (g .1 .1)))
 
 module _ (rs : List Region) (w : Right) (a n : ℕ) where
-  pub reach-none : 0 ≡ beforeOf rs w a n → _≡_ {A = Reach} record { before = 0; place = 0 } (reachOf rs w a n)
+  -- a search that broke off tells no place
+  pub reach-short : (b : ℕ) → b ≡ beforeOf rs w a n → (b ≡ n → ⊥) → _≡_ {A = Reach} record { before = b; place = 0 } (reachOf rs w a n)
   unfolding reachOf
-  reach-none e = let p = sym (pick-eq 0 (placeIn (spotOf rs 0 a)) (sym e)) in λ i. record { before = e i; place = p i }
+  reach-short b e z = let p = sym (pick-ne (spanPlace rs a n) 0 (λ (q : beforeOf rs w a n ≡ n). z (e ∙ q))) in λ i. record { before = e i; place = p i }
 
-  pub reach-some : (b place : ℕ) → b ≡ beforeOf rs w a n → 1 ≤ b → place ≡ placeIn (spotOf rs 0 a)
+  pub reach-none : 0 ≡ beforeOf rs w a n → n ≡ 0 → _≡_ {A = Reach} record { before = 0; place = 0 } (reachOf rs w a n)
+  unfolding reachOf
+  reach-none e z =
+      let p = sym (pick-eq (spanPlace rs a n) 0 (sym e ∙ sym z) ∙ pick-eq 0 (placeIn (spotOf rs 0 a)) z) in
+      λ i. record { before = e i; place = p i }
+
+  pub reach-all : (b place : ℕ) → b ≡ beforeOf rs w a n → b ≡ n → 1 ≤ b → place ≡ placeIn (spotOf rs 0 a)
       → _≡_ {A = Reach} record { before = b; place = place } (reachOf rs w a n)
   unfolding reachOf
-  reach-some b place e some q =
-      let p = q ∙ sym (pick-ne 0 (placeIn (spotOf rs 0 a)) (λ (z : beforeOf rs w a n ≡ 0). let k : ⊥ = omega arith in k)) in
+  reach-all b place e all some q =
+      let p = q ∙ sym (pick-eq (spanPlace rs a n) 0 (sym e ∙ all) ∙ pick-ne 0 (placeIn (spotOf rs 0 a)) (λ (z : n ≡ 0). let k : ⊥ = omega arith in k)) in
       λ i. record { before = e i; place = p i }

@@ -43,6 +43,10 @@ beforeOf rs w a (suc n) = pick (grantsOf rs w a) (suc (beforeOf rs w (suc a) n))
 abbrev pub spanHas : List Region → Right → ℕ → ℕ → Bool
 spanHas rs w a n = eqb (beforeOf rs w a n) n
 
--- what the search for a right tells of n octets from an address on
+-- the memory place of a span is that of its first octet; an empty span has none
+abbrev pub spanPlace : List Region → ℕ → ℕ → ℕ
+spanPlace rs a n = pick (eqb n 0) 0 (placeIn (spotOf rs 0 a))
+
+-- what the search for a right tells of n octets from an address on: how far it goes, and the span's place where it goes over the whole span
 unfoldable pub reachOf : List Region → Right → ℕ → ℕ → Reach
-reachOf rs w a n = record { before = beforeOf rs w a n; place = pick (eqb (beforeOf rs w a n) 0) 0 (placeIn (spotOf rs 0 a)) }
+reachOf rs w a n = record { before = beforeOf rs w a n; place = pick (eqb (beforeOf rs w a n) n) (spanPlace rs a n) 0 }

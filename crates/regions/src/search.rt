@@ -72,7 +72,7 @@ fn denies(region: Region, right: Right, address: u64) -> bool
 }
 
 // What the search for a right tells of a span: how many of its octets come before the first that lacks the right, and the memory place of its first octet,
-// 0 where that one lacks it.
+// 0 where one lacks it.
 pub struct Reach {
     pub before: u8,
     pub place: u64,
@@ -106,6 +106,12 @@ pub fn before(sheet: &[u8], regions: u8, right: Right, address: u32, size: u8) -
             place += 10;
         }
         at += 1;
+    }
+    if at < stop {
+        return Reach {
+            before: (at - first) as u8,
+            place: 0,
+        };
     }
     if at == first {
         return Reach {

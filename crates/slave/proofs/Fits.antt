@@ -14,7 +14,7 @@ use Rattle.link.specs.declared.state.LinkState.{LinkState}
 use Rattle.machine.specs.Connecting.{connectOf}
 use Rattle.machine.specs.Judging.{parameterData, parameterOf, itemData, itemOf, alarmsOf, clearOf, elementOf, memoryOf, dataOf, judgeOf}
 use Rattle.machine.specs.Outcomes.{finished, outcomeOf}
-use Rattle.machine.specs.Spans.{rightOf, moved, spanPlace, grantedOf, spanOf}
+use Rattle.machine.specs.Spans.{rightOf, moved, grantedOf, spanOf}
 use Rattle.machine.specs.declared.words.Carrier.{Carrier}
 use Rattle.machine.specs.declared.words.Carrier.the-variants.{Parameter as ByParameter, Memory as ByMemory}
 use Rattle.machine.specs.declared.words.Command.{Command}
@@ -23,7 +23,7 @@ use Rattle.machine.specs.declared.words.Judgement.{Judgement}
 use Rattle.machine.specs.declared.words.Judgement.the-variants.{Refused, Accepted}
 use Rattle.machine.specs.declared.words.Outcome.{Outcome}
 use Rattle.regions.specs.Region.{regionsOf}
-use Rattle.regions.specs.Search.{placeIn, beforeOf, spanHas}
+use Rattle.regions.specs.Search.{placeIn, beforeOf, spanHas, spanPlace}
 use Rattle.regions.specs.declared.Right.the-variants.{Mapped}
 use Rattle.regions.proofs.Places.{mapped-spot, span-inside}
 use Rattle.regions.proofs.Spans.{all-before, span-mapped}

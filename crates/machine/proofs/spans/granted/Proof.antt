@@ -4,14 +4,12 @@ use mathlib.Core.Bool.{not}
 use mathlib.Core.Path.{_≡_, sym, ap, _∙_}
 use borrow.Author.Needs.{needs}
 use borrow.Author.Tests.{eq-eqb, ne-eqb}
-use lib.Dec.{eqb}
-use Rattle.octets.specs.Pick.{pick}
-use Rattle.octets.proofs.Pick.{pick-yes, pick-no}
+use Rattle.octets.proofs.Pick.{pick-yes, pick-no, pick-eq}
 use Rattle.regions.specs.Region.{regionsOf}
-use Rattle.regions.specs.Search.{spotOf, placeIn, beforeOf, reachOf}
+use Rattle.regions.specs.Search.{beforeOf, spanPlace, reachOf}
 use Rattle.regions.specs.declared.Right.{Right}
 use Rattle.regions.specs.declared.search.Reach.{Reach}
-use Rattle.machine.specs.Spans.{rightOf, moved, spanPlace, grantedOf}
+use Rattle.machine.specs.Spans.{rightOf, moved, grantedOf}
 use Rattle.machine.specs.declared.words.Effect.{Effect}
 use Rattle.machine.specs.declared.words.Field.the-variants.{Span}
 use Rattle.machine.specs.declared.words.Judgement.the-variants.{Refused, Accepted}
@@ -27,7 +25,7 @@ returns c =
     let e = found .ensures ∙ ap (λ (w : Right). reachOf rs w (a .address) (a .size)) (c .before .before .before .before .right-of .ensures) in
     let all : beforeOf rs (rightOf (a .writes) (a .st .link)) (a .address) (a .size) ≡ a .size = sym (ap (λ (r : Reach). r .before) e) ∙ c .before .if1 .taken in
     let place : found .result .place ≡ spanPlace rs (a .address) (a .size) =
-    ap (λ (r : Reach). r .place) e ∙ ap (λ (b : ℕ). pick (eqb b 0) 0 (placeIn (spotOf rs 0 (a .address)))) all in
+    ap (λ (r : Reach). r .place) e ∙ pick-eq _ _ all in
     let m = c .moves .ensures ∙ ap (λ (p : ℕ). moved (a .writes) (a .by) p (a .size)) place in
     ap (λ (x : Effect). Accepted x (a .st)) m ∙ sym (pick-no _ _ (ap not (eq-eqb _ _ all)))
 

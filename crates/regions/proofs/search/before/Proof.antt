@@ -10,7 +10,7 @@ use Rattle.regions.specs.Region.{regionFrom, regionAt, regionsOf}
 use Rattle.regions.specs.Search.{spotOf, placeIn, beforeOf}
 use Rattle.regions.specs.declared.Right.{Right}
 use Rattle.regions.proofs.Kept.{Kept, kept-first, kept-octet, kept-region, kept-within, kept-out, kept-denied, kept-ends}
-use Rattle.regions.proofs.Placed.{Placed, placed-first, placed-octet, placed-region, placed-found, reach-none, reach-some}
+use Rattle.regions.proofs.Placed.{Placed, placed-first, placed-octet, placed-region, placed-found, reach-short, reach-none, reach-all}
 use Rattle.regions.proofs.region_in.Reads as region-in-reads
 use Rattle.regions.proofs.search.denies.Reads as denies-reads
 use Rattle.regions.proofs.search.before.Lts as lts
@@ -165,48 +165,64 @@ stopped c =
     v)
     (c .octets-test .came)
 
+sub-t23 : tie.Need-sub-t23 Inv-loop μ-loop Inv-octets μ-octets
+sub-t23 c = c .before .before .octets .inv .1 .kept .since
+
+cast-t24 : tie.Need-cast-t24 Inv-loop μ-loop Inv-octets μ-octets
+cast-t24 c = omega arith
+
 returns : tie.Need-returns Inv-loop μ-loop Inv-octets μ-octets
 returns c =
     let a = c .before .before .before .before .args in
-    let none : 0 ≡ c .before .before .octets .at - a .address = omega arith in
-    reach-none (regionsOf (a .sheet .now) (a .regions)) (a .right) (a .address) (a .size) (none ∙ stopped (c .before) .told)
-
--- where an octet was passed, the first one's place
-passed-one : (c : lts.Else3 (region-in-reads.Asked, region-in-reads.Learnt, denies-reads.Asked, denies-reads.Learnt) reads.Pre reads.Post Inv-loop μ-loop Inv-octets μ-octets)
-    → let a = c .before .before .before .before .args in
-    let end = c .before .octets-test .end in
-    let behind = c .before .octets-test .base + a .address in
-    (end ≤ behind) × (behind - end ≡ placeIn (spotOf (regionsOf (a .sheet .now) (a .regions)) 0 (a .address)))
-passed-one c =
-    let a = c .before .before .before .before .args in
-    let o = c .before .before .octets in
-    let k = stopped (c .before) in
-    let l = o .inv .1 .kept .since in
-    placed-found (regionAt (a .sheet .now)) (a .regions) (a .address) (o .at) (c .before .octets-test .end) (c .before .octets-test .base) (k .i) l (k .placed) (omega arith)
-
-sub-t14 : tie.Need-sub-t14 Inv-loop μ-loop Inv-octets μ-octets
-sub-t14 c = c .before .before .octets .inv .1 .kept .since
-
-cast-t23 : tie.Need-cast-t23 Inv-loop μ-loop Inv-octets μ-octets
-cast-t23 c = omega arith
-
-add-t24 : tie.Need-add-t24 Inv-loop μ-loop Inv-octets μ-octets
-add-t24 c =
-    let k = stopped (c .before) in
-    omega (arith, k .within, k .placed .small)
-
-sub-t25 : tie.Need-sub-t25 Inv-loop μ-loop Inv-octets μ-octets
-sub-t25 c = omega (arith, passed-one c .0)
+    let l = c .before .before .octets .inv .1 .kept .since in
+    reach-short (regionsOf (a .sheet .now) (a .regions)) (a .right) (a .address) (a .size) _ (stopped (c .before) .told)
+    (λ z. let w : ⊥ = omega (arith, l, z, c .if3 .taken) in w)
 
 returns-2 : tie.Need-returns-2 Inv-loop μ-loop Inv-octets μ-octets
 returns-2 c =
-    let a = c .before .before .before .before .args in
-    let l = c .before .before .octets .inv .1 .kept .since in
-    reach-some (regionsOf (a .sheet .now) (a .regions)) (a .right) (a .address) (a .size) _ _ (stopped (c .before) .told)
-    (let some : 1 ≤ c .before .before .octets .at - a .address = omega arith in some) (passed-one c .1)
+    let a = c .before .before .before .before .before .args in
+    let none : 0 ≡ c .before .before .before .octets .at - a .address = omega arith in
+    reach-none (regionsOf (a .sheet .now) (a .regions)) (a .right) (a .address) (a .size) (none ∙ stopped (c .before .before) .told) (omega arith)
+
+-- where an octet was passed, the first one's place
+passed-one : (c : lts.Else4 (region-in-reads.Asked, region-in-reads.Learnt, denies-reads.Asked, denies-reads.Learnt) reads.Pre reads.Post Inv-loop μ-loop Inv-octets μ-octets)
+    → let a = c .before .before .before .before .before .args in
+    let end = c .before .before .octets-test .end in
+    let behind = c .before .before .octets-test .base + a .address in
+    (end ≤ behind) × (behind - end ≡ placeIn (spotOf (regionsOf (a .sheet .now) (a .regions)) 0 (a .address)))
+passed-one c =
+    let a = c .before .before .before .before .before .args in
+    let o = c .before .before .before .octets in
+    let k = stopped (c .before .before) in
+    let l = o .inv .1 .kept .since in
+    placed-found (regionAt (a .sheet .now)) (a .regions) (a .address) (o .at) (c .before .before .octets-test .end) (c .before .before .octets-test .base) (k .i) l (k .placed) (omega arith)
+
+sub-t14 : tie.Need-sub-t14 Inv-loop μ-loop Inv-octets μ-octets
+sub-t14 c = c .before .before .before .octets .inv .1 .kept .since
+
+cast-t25 : tie.Need-cast-t25 Inv-loop μ-loop Inv-octets μ-octets
+cast-t25 c = omega arith
+
+add-t26 : tie.Need-add-t26 Inv-loop μ-loop Inv-octets μ-octets
+add-t26 c =
+    let k = stopped (c .before .before) in
+    omega (arith, k .within, k .placed .small)
+
+sub-t27 : tie.Need-sub-t27 Inv-loop μ-loop Inv-octets μ-octets
+sub-t27 c = omega (arith, passed-one c .0)
+
+returns-3 : tie.Need-returns-3 Inv-loop μ-loop Inv-octets μ-octets
+returns-3 c =
+    let a = c .before .before .before .before .before .args in
+    let o = c .before .before .before .octets in
+    let l = o .inv .1 .kept .since in
+    let most = o .inv .0 in
+    reach-all (regionsOf (a .sheet .now) (a .regions)) (a .right) (a .address) (a .size) _ _ (stopped (c .before .before) .told)
+    (let all : o .at - a .address ≡ a .size = omega (arith, c .before .if3 .left) in all)
+    (let some : 1 ≤ o .at - a .address = omega arith in some) (passed-one c .1)
 
 pub before-spec : {M : Type 1} → statement M
 before-spec =
     tie.close (tie.spec Inv-loop μ-loop Inv-octets μ-octets (λ c. search needs) (λ c. search needs) (λ c. search needs) octets-holds loop-holds region-in-requires
     (λ c κs. search needs) (λ c. search needs) (λ c. search needs) (λ c. search needs) (λ c. search needs) add-base add-place loop-less loop-again add-at octets-less octets-again
-    returns sub-t14 cast-t23 add-t24 sub-t25 returns-2)
+    sub-t23 cast-t24 returns returns-2 sub-t14 cast-t25 add-t26 sub-t27 returns-3)
