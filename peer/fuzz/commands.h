@@ -101,6 +101,23 @@ static void aim(struct input *in, const struct parts *parts, uint8_t *command)
     }
 }
 
+/* Bit 2 gives the WDT that keeps link 3, with bit 3 its MN alone; bit 3 without
+ * it gives its SN alone. */
+static uint8_t aim_wdt(uint8_t wdt, const uint8_t *state, uint8_t control)
+{
+    const uint8_t mn = (state[6] + 1) & 15, sn = (uint8_t)(state[7] << 4);
+
+    switch (control >> 2 & 3) {
+    case 1:
+        return sn | mn;
+    case 2:
+        return sn | (wdt & 0x0F);
+    case 3:
+        return (wdt & 0xF0) | mn;
+    }
+    return wdt;
+}
+
 /* A command of 256 octets, of which L are lent. */
 static void make_command(struct input *in, const struct parts *parts,
                          const uint8_t *state, size_t state_length,
@@ -117,8 +134,8 @@ static void make_command(struct input *in, const struct parts *parts,
         command[0] = codes[command[0] % 11];
     if (control & 2)
         aim(in, parts, command);
-    if (control & 4 && state_length == 10)
-        command[1] = (uint8_t)((command[1] & 0xF0) | ((state[6] + 1) & 15));
+    if (state_length == 10)
+        command[1] = aim_wdt(command[1], state, control);
 }
 
 #endif

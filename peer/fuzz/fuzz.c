@@ -110,13 +110,14 @@ static void enable(void)
 
 static void exchange(const uint8_t *octets, size_t length, size_t reply_length)
 {
-    const uint8_t link = rig.state[0].length > 1 ? rig.state[0].octets[1] : 0;
-    uint8_t old[256];
+    uint8_t old[256], before[10] = {0};
     uint64_t peer, t24;
 
     memset(old, 0x5A, sizeof old);
     lend_both(rig.command, octets, length);
     lend_both(rig.reply, old, reply_length);
+    if (rig.state[0].length == sizeof before)
+        memcpy(before, rig.state[0].octets, sizeof before);
     keep_start(STATE(0), MEMORY(0));
     peer = peer_exchange(SHEET(0), STATE(0), MEMORY(0), COMMAND(0), REPLY(0));
     t24 = t24_exchange(SHEET(1), STATE(1), MEMORY(1), COMMAND(1), REPLY(1));
@@ -126,7 +127,7 @@ static void exchange(const uint8_t *octets, size_t length, size_t reply_length)
     mark_call("exchange", peer);
     if ((uint32_t)peer != 0) /* a place tells of a command in a built reply */
         return;
-    mark_exchange(octets, rig.reply[0].octets, length, link,
+    mark_exchange(octets, rig.reply[0].octets, length, before,
                   rig.state[0].octets[1]);
     mark_place(octets[0], rig.reply[0].octets[3] & 15, peer >> 32);
     keep_record(octets, rig.reply[0].octets, length);

@@ -26,10 +26,20 @@ static void mark_call(const char *call, uint64_t answer)
         fprintf(stderr, "mark %s_%u\n", call, number);
 }
 
+/* What lost a cycle: MN, SN, or both. */
+static void mark_lost(const uint8_t *before, uint8_t wdt)
+{
+    const int follows = (wdt & 15) == ((before[6] + 1) & 15);
+    const int same = wdt >> 4 == before[7];
+
+    fprintf(stderr, "mark lost_cycle\n");
+    fprintf(stderr, "mark lost_by_%s\n", same ? "MN" : follows ? "SN" : "both");
+}
+
 /* An exchange that was answered: a lost cycle, or its code with the alarm, and
  * its L if it was an accepted read; and the identity that came back. */
 static void mark_exchange(const uint8_t *command, const uint8_t *reply,
-                          size_t length, uint8_t link_before, uint8_t link)
+                          size_t length, const uint8_t *before, uint8_t link)
 {
     static const uint8_t known[] = {0x00, 0x01, 0x02, 0x03, 0x05, 0x06,
                                     0x0D, 0x0E, 0x0F, 0x1D, 0x1E};
@@ -38,13 +48,13 @@ static void mark_exchange(const uint8_t *command, const uint8_t *reply,
     if (!telling())
         return;
     fprintf(stderr, "mark identity_%u\n", reply[2] >> 6);
-    if (link_before == 3 && link == 2 && reply[3] >> 4 == 12)
-        fprintf(stderr, "mark lost_cycle\n");
+    if (before[1] == 3 && link == 2 && reply[3] >> 4 == 12)
+        mark_lost(before, command[1]);
     else if (memchr(known, command[0], sizeof known) == NULL)
         fprintf(stderr, "mark code_unknown_alarm_%u\n", alarm);
     else
         fprintf(stderr, "mark code_%02X_alarm_%u\n", command[0], alarm);
-    if (alarm == 0 && command[0] == 0x1D && link == link_before)
+    if (alarm == 0 && command[0] == 0x1D && link == before[1])
         fprintf(stderr, "mark read_L%u_link_%u\n", (unsigned)length, link);
 }
 

@@ -144,11 +144,14 @@ fn case_10_the_master_counts_from_15_to_0() {
     let start = with(A, &[(1, 3), (5, 1), (6, 15), (7, 6)]);
     let after = with(start, &[(6, 0), (7, 7)]);
     let told = refused(0, 0x70, [4, 0]);
-    assert_eq!(bench(start, command(&[0])), (0, told, after, MEMORY));
+    // MN 0 with SN equal to RSN, which is the premise of request 5.
+    assert_eq!(bench(start, command(&[0, 0x60])), (0, told, after, MEMORY));
     let start = with(A, &[(1, 3), (3, 1), (4, 2), (5, 1), (6, 3), (7, 6)]);
     let after = with(A, &[(4, 2), (9, 12)]);
     let told = refused(0, 0, [5, 0xC0]);
-    assert_eq!(bench(start, command(&[0, 3])), (0, told, after, MEMORY));
+    for wdt in [0x03, 0x63] {
+        assert_eq!(bench(start, command(&[0, wdt])), (0, told, after, MEMORY));
+    }
 }
 
 #[test]

@@ -44,7 +44,7 @@ pub fn decide(sheet: &Sheet, before: State, memory: &[u8], command: &[u8]) -> Ou
         write: None,
     };
     let mut alarm = 0;
-    if before.misses(mn) {
+    if before.misses(command[1]) {
         outcome.state = before.cycle_lost();
     } else {
         match judge(sheet, &before, command) {

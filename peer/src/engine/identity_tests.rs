@@ -9,9 +9,9 @@ const MEMORY: [u8; 4] = [0x31, 0x32, 0x33, 0x34];
 const ASYNC: [u8; 10] = [0x11, 2, 16, 0, 5, 0, 0, 0, 0, 0];
 const SYNC: [u8; 10] = [0x11, 3, 16, 1, 5, 1, 7, 4, 0, 0];
 const DISCONNECTED: [u8; 10] = [0x11, 1, 16, 0, 0, 0, 0, 0, 0, 0];
-/// The MN that follows in `SYNC`, and one that does not.
-const NEXT: u8 = 8;
-const LOST: u8 = 9;
+/// The WDT that `SYNC` asks for, and two that lose the cycle, by MN and by SN.
+const NEXT: u8 = 0x48;
+const LOST: [u8; 2] = [0x49, 0x58];
 
 /// Reply, state and memory after one exchange over old octets.
 type Left = ([u8; 16], [u8; 10], [u8; 4]);
@@ -60,19 +60,21 @@ fn an_accepted_command_gets_its_identity_back() {
 
 #[test]
 fn a_refused_command_gets_its_identity_back() {
-    for (state, mn) in [(ASYNC, 0), (SYNC, NEXT)] {
-        echoes_alone(state, command(&[0x77, mn]), [5, 8]);
-        echoes_alone(state, command(&[0x06, mn, 0, 0, 1]), [5, 9]);
-        echoes_alone(state, command(&[0x0E, mn]), [5, 12]);
+    for (state, wdt) in [(ASYNC, 0), (SYNC, NEXT)] {
+        echoes_alone(state, command(&[0x77, wdt]), [5, 8]);
+        echoes_alone(state, command(&[0x06, wdt, 0, 0, 1]), [5, 9]);
+        echoes_alone(state, command(&[0x0E, wdt]), [5, 12]);
     }
     echoes_alone(ASYNC, memory_command(0x1E, 0), [5, 10]);
 }
 
 #[test]
 fn a_lost_cycle_gives_the_identity_back() {
-    echoes_alone(SYNC, command(&[0x00, LOST]), [5, 0xC0]);
-    echoes_alone(SYNC, command(&[0x77, LOST]), [5, 0xC0]);
-    echoes_alone(SYNC, memory_command(0x1E, LOST), [5, 0xC0]);
+    for wdt in LOST {
+        echoes_alone(SYNC, command(&[0x00, wdt]), [5, 0xC0]);
+        echoes_alone(SYNC, command(&[0x77, wdt]), [5, 0xC0]);
+        echoes_alone(SYNC, memory_command(0x1E, wdt), [5, 0xC0]);
+    }
 }
 
 #[test]
@@ -87,7 +89,7 @@ fn the_identity_stands_beside_both_latches() {
 /// One accepted, one refused and one lost exchange as a trace, with this octet 2.
 fn trace_of(octet_2: u8) -> Vec<u8> {
     let (mut trace, mut state, mut memory) = (Vec::new(), SYNC, MEMORY);
-    for octets in [[0x00, NEXT], [0x77, NEXT + 1], [0x00, 0]] {
+    for octets in [[0x00, NEXT], [0x77, NEXT + 0x11], [0x00, NEXT]] {
         let asked = command(&[octets[0], octets[1], octet_2]);
         let mut reply = [0; 16];
         let answer = exchange(&SHEET, &mut state, &mut memory, &asked, &mut reply);

@@ -1,5 +1,5 @@
 //! The slave on byte slices, as document 01 ("What we are to build") rules,
-//! with requests 1, 3, 6 and 8 of document 02.
+//! with requests 1, 3, 5, 6 and 8 of document 02.
 //!
 //! Each call answers number + 2^32 × place. A call with a number other than 0
 //! has written nothing, except a replay's difference (34), which has replayed
@@ -29,6 +29,8 @@ mod replay_tests;
 mod rule_tests;
 #[cfg(test)]
 mod sheet_tests;
+#[cfg(test)]
+mod watchdog_tests;
 
 use answer::{refuse, Answer};
 use sheet::Sheet;

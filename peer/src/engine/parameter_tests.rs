@@ -7,6 +7,8 @@ use super::{exchange, sheet};
 const LINK: [u8; 4] = [1, 16, 3, 4];
 const ASYNC: [u8; 10] = [0x11, 2, 16, 0, 5, 0, 0, 0, 0, 0];
 const SYNC: [u8; 10] = [0x11, 3, 16, 1, 5, 1, 7, 4, 0, 0];
+/// The WDT that `SYNC` asks for.
+const NEXT: u8 = 0x48;
 const SPAN_FAULT: u64 = 17;
 
 /// A region as start, length and rights.
@@ -49,7 +51,7 @@ fn after(sheet: &[u8], parts: &[Part], state: [u8; 10], head: [u8; 7]) -> (u8, [
 /// The alarm of PRM_RD or PRM_WR in link 2 or 3.
 fn alarm(parts: &[Part], address: u64, size: u8, code: u8, state: [u8; 10]) -> u8 {
     let octets = sheet_of(parts, address, size);
-    after(&octets, parts, state, [code, 8, 0, 0, 7, 0, size]).0
+    after(&octets, parts, state, [code, NEXT, 0, 0, 7, 0, size]).0
 }
 
 /// Three regions of 1 to 3 octets with gaps of 0 to 2 before each, the middle one closed.

@@ -3,10 +3,12 @@
 use super::memory_mode;
 use super::{exchange, replay};
 
-/// Records of links 1 to 3 from octet 1 on, L left out; the MN that follows in the last is 8.
+/// Records of links 1 to 3 from octet 1 on, L left out.
 const DISCONNECTED: [u8; 8] = [1, 0, 0, 0, 0, 0, 0, 0];
 const ASYNC: [u8; 8] = [2, 0, 5, 0, 0, 0, 0, 0];
 const SYNC: [u8; 8] = [3, 1, 5, 1, 7, 4, 0, 0];
+/// The WDT that `SYNC` asks for.
+const NEXT: u8 = 0x48;
 const LENGTHS: [u8; 5] = [8, 16, 32, 48, 64];
 /// No command may read or write octets 4 and 7 of the addresses 10 to 1F hex; 1A is in no region.
 const REGIONS: [[u8; 3]; 6] = [
@@ -59,11 +61,11 @@ fn told(octets: &[u8]) -> (u8, u64) {
 
 /// Octets 4 to 7 behind the head.
 fn short(code: u8, fields: [u8; 4]) -> Vec<u8> {
-    [&[code, 8, 0, 0][..], &fields].concat()
+    [&[code, NEXT, 0, 0][..], &fields].concat()
 }
 
 fn memory(code: u8, mode: u8, count: u16, address: u32) -> Vec<u8> {
-    let mut octets = vec![code, 8, 0, 0, 0xFF, mode];
+    let mut octets = vec![code, NEXT, 0, 0, 0xFF, mode];
     octets.extend(count.to_le_bytes());
     octets.extend(address.to_le_bytes());
     octets
@@ -212,10 +214,12 @@ fn alarms_8_and_12_and_a_lost_cycle_have_0() {
     for pdu_length in LENGTHS {
         for code in 0..=255 {
             let command = short(code, [0xFF; 4]);
-            // MN 8 is the last one of this state.
-            let mut lost = SYNC;
-            lost[4] = 8;
-            assert_eq!(told_at(pdu_length, lost, &command), (0, 0));
+            // The last MN, or the RSN, is such that this WDT loses the cycle.
+            for at in [4, 5] {
+                let mut lost = SYNC;
+                lost[at] = 8;
+                assert_eq!(told_at(pdu_length, lost, &command), (0, 0));
+            }
         }
         for code in [1, 2, 3, 5, 6, 0x0D, 0x1D, 0x1E] {
             let command = short(code, [0xFF; 4]);

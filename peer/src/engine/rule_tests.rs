@@ -16,6 +16,8 @@ fn sheet() -> Vec<u8> {
 
 const ASYNC: [u8; 10] = [0x11, 2, 16, 0, 5, 0, 0, 0, 0, 0];
 const SYNC: [u8; 10] = [0x11, 3, 16, 1, 5, 1, 7, 4, 0, 0];
+/// The WDT that `SYNC` asks for.
+const NEXT: u8 = 0x48;
 const DISCONNECTED: [u8; 10] = [0x11, 1, 16, 0, 0, 0, 0, 0, 0, 0];
 
 /// Reply and state after one exchange over a zero memory.
@@ -37,7 +39,7 @@ fn alarm(state: [u8; 10], octets: &[u8]) -> u8 {
 fn disconnect_from_link_3_keeps_the_latches() {
     let mut start = SYNC;
     start[8] = 9;
-    let (reply, state) = after(start, &[0x0F, 8]);
+    let (reply, state) = after(start, &[0x0F, NEXT]);
     assert_eq!(reply[..4], [0x0F, 0, 5, 0]);
     assert_eq!(state, [0x11, 1, 16, 0, 0, 0, 0, 0, 9, 0]);
 }
@@ -45,7 +47,7 @@ fn disconnect_from_link_3_keeps_the_latches() {
 #[test]
 fn a_lost_cycle_is_told_before_anything_else() {
     for code in 0..=255 {
-        let (reply, state) = after(SYNC, &[code, 0xF7]);
+        let (reply, state) = after(SYNC, &[code, 0x47]);
         assert_eq!(reply[..4], [code, 0, 5, 0xC0]);
         assert_eq!(reply[4..], [0; 12]);
         assert_eq!(state, [0x11, 2, 16, 0, 5, 0, 0, 0, 0, 12]);
@@ -66,7 +68,7 @@ fn entering_link_3_answers_the_masters_count_and_rsn_0() {
 fn a_refused_command_counts_in_link_3() {
     let mut start = SYNC;
     start[7] = 15;
-    let (reply, state) = after(start, &[0x0D, 8]);
+    let (reply, state) = after(start, &[0x0D, 0xF8]);
     assert_eq!(reply[..4], [0x0D, 0x08, 5, 12]);
     assert_eq!(state, [0x11, 3, 16, 1, 5, 1, 8, 0, 12, 0]);
 }
@@ -93,7 +95,7 @@ fn links_allow_their_codes() {
     assert_eq!(alarm(DISCONNECTED, &[4]), 8);
     assert_eq!(alarm(DISCONNECTED, &[0x0F]), 0);
     assert_eq!(alarm(ASYNC, &[0x0E, 0, 0, 0, 3, 0, 1, 4]), 12);
-    assert_eq!(alarm(SYNC, &[0x0E, 8, 0, 0, 3, 0, 1, 4]), 12);
+    assert_eq!(alarm(SYNC, &[0x0E, NEXT, 0, 0, 3, 0, 1, 4]), 12);
 }
 
 #[test]

@@ -117,10 +117,14 @@ impl State {
         self.command_latch != 0 || self.communication_latch != 0
     }
 
-    /// Whether the watchdog's MN does not follow the last one (check 1).
-    pub fn misses(&self, mn: u8) -> bool {
+    /// Whether this WDT loses the cycle (check 1).
+    ///
+    /// "With MN known, link 3 shall require that MN follows and that SN equals the
+    /// state's RSN" (request 5); with MN not known neither is asked.
+    pub fn misses(&self, wdt: u8) -> bool {
+        let (mn, sn) = (wdt & 15, wdt >> 4);
         match self.counters {
-            Some(counters) => mn != (counters.last_mn + 1) % 16,
+            Some(counters) => mn != (counters.last_mn + 1) % 16 || sn != counters.rsn,
             None => false,
         }
     }

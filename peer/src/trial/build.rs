@@ -1,7 +1,7 @@
 //! Commands and memories for directed trials.
 
 use super::plan::Plan;
-use super::states::{KNOWN_AT, LAST_MN_AT, LINK_AT, SYNC};
+use super::states::{KNOWN_AT, LAST_MN_AT, LINK_AT, RSN_AT, SYNC};
 
 /// A command of this code whose unnamed octets all hold something.
 pub fn command(plan: &Plan, code: u8) -> Vec<u8> {
@@ -51,10 +51,10 @@ pub fn memory(plan: &Plan, code: u8, mode: u8, count: u16, address: u64) -> Vec<
     command
 }
 
-/// Sets the MN that follows, where the state asks for one.
+/// Sets the MN that follows and the SN that is the RSN, where the state asks for them.
 pub fn follow(command: &mut [u8], state: &[u8]) {
     if state[LINK_AT] == SYNC && state[KNOWN_AT] == 1 {
-        command[1] = command[1] & 0xF0 | (state[LAST_MN_AT] + 1) & 15;
+        command[1] = state[RSN_AT] << 4 | state[LAST_MN_AT].wrapping_add(1) & 15;
     }
 }
 

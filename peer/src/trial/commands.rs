@@ -40,22 +40,26 @@ fn code(random: &mut Random, link: u8) -> u8 {
     }
 }
 
-/// Mostly the next MN, and any SN or the one that echoes RSN.
+/// Mostly the WDT that is asked for, else MN, SN or both are beside it; any where none is asked for.
 fn watchdog(random: &mut Random, state: &[u8]) -> u8 {
-    let follows = state[LINK_AT] == SYNC && state[KNOWN_AT] == 1;
-    let next = state[LAST_MN_AT].wrapping_add(1) & 15;
-    let mn = match random.below(100) {
-        0..=1 if follows => state[LAST_MN_AT],
-        2 if follows => next.wrapping_add(1) & 15,
-        3..=95 if follows => next,
-        _ => random.octet() & 15,
+    if state[LINK_AT] != SYNC || state[KNOWN_AT] != 1 {
+        return random.octet();
+    }
+    let (last, rsn) = (state[LAST_MN_AT], state[RSN_AT]);
+    let next = last.wrapping_add(1) & 15;
+    let (mn, sn) = match random.below(100) {
+        0 => (last, rsn),
+        1 => (next.wrapping_add(1), rsn),
+        2 => (random.octet(), rsn),
+        3 => (next, rsn.wrapping_add(1)),
+        4 => (next, rsn.wrapping_sub(1)),
+        5 => (next, random.pick(&[last, next])),
+        6 => (next, random.octet()),
+        7 => (last, rsn.wrapping_sub(1)),
+        8 => (random.octet(), random.octet()),
+        _ => (next, rsn),
     };
-    let sn = if random.chance(50) {
-        state[RSN_AT]
-    } else {
-        random.octet()
-    };
-    sn << 4 | mn
+    sn << 4 | mn & 15
 }
 
 fn fill_body(random: &mut Random, plan: &Plan, command: &mut [u8]) {
@@ -191,7 +195,20 @@ fn address(random: &mut Random, plan: &Plan, length: u64) -> u64 {
 mod tests {
     use super::*;
     use crate::trial::samples::sheet_p;
-    use crate::trial::states::plain_state;
+    use crate::trial::states::{counting_state, plain_state};
+
+    #[test]
+    fn most_commands_stay_in_step_and_some_lose_the_cycle_by_each_cause() {
+        let (mut random, plan) = (Random::new(1), sheet_p());
+        let state = counting_state(16, 15, 6);
+        let mut counts = [0; 4];
+        for _ in 0..10_000 {
+            let wdt = random_command(&mut random, &plan, &state)[1];
+            let wrong = [wdt & 15 != 0, wdt >> 4 != 6].map(usize::from);
+            counts[wrong[0] + 2 * wrong[1]] += 1;
+        }
+        assert!(counts[0] > 8800 && counts[1..].iter().all(|&lost| lost > 100));
+    }
 
     #[test]
     fn both_control_octets_take_every_value() {

@@ -8,6 +8,7 @@ pub mod directed;
 pub mod engines;
 pub mod guarded;
 pub mod layout;
+pub mod lost;
 pub mod places;
 pub mod plan;
 pub mod probe;

@@ -33,7 +33,7 @@ fn old_octet(octet: u8) -> u8 {
     }
 }
 
-/// One exchange with the MN that follows.
+/// One exchange with the WDT that the state asks for.
 pub fn exchange_in_step(rig: &mut Rig, mut command: Vec<u8>) -> Outcome {
     build::follow(&mut command, &rig.inputs.state);
     exchange(rig, &command)

@@ -2,6 +2,7 @@
 
 use super::call::{Call, Inputs};
 use super::commands::CODES;
+use super::lost::Lost;
 use super::places::Places;
 use super::states::{ASYNC, LINK_AT, SYNC};
 use crate::engine::memory_mode;
@@ -80,6 +81,7 @@ pub struct Tally {
     /// Accepted commands over more than one region, by the codes that have a span.
     crossings: BTreeMap<u8, u64>,
     places: Places,
+    lost: Lost,
 }
 
 impl Default for Tally {
@@ -91,6 +93,7 @@ impl Default for Tally {
             numbers: BTreeMap::new(),
             crossings: BTreeMap::new(),
             places: Places::default(),
+            lost: Lost::default(),
         }
     }
 }
@@ -103,16 +106,19 @@ impl Tally {
             *self.numbers.entry((call, answer as u32)).or_insert(0) += 1;
         }
         if call == Call::Exchange && answer as u32 == 0 {
-            self.add_reply(before[LINK_AT], after, reply);
+            self.add_reply(before, after, reply);
             self.places.add(reply[0], reply[3] & 15, answer >> 32);
         }
     }
 
-    fn add_reply(&mut self, before: u8, after: &Inputs, reply: &[u8]) {
-        let alarm = usize::from(reply[3] & 15);
-        let lost = before == SYNC && after.state[LINK_AT] == ASYNC;
-        self.codes[usize::from(reply[0])].add(before, alarm, lost);
-        self.identities[usize::from(reply[2] >> 6)].add(before, alarm, lost);
+    fn add_reply(&mut self, before: &[u8], after: &Inputs, reply: &[u8]) {
+        let (alarm, link) = (usize::from(reply[3] & 15), before[LINK_AT]);
+        let lost = link == SYNC && after.state[LINK_AT] == ASYNC;
+        self.codes[usize::from(reply[0])].add(link, alarm, lost);
+        self.identities[usize::from(reply[2] >> 6)].add(link, alarm, lost);
+        if lost {
+            self.lost.add(before, after.command[1]);
+        }
         if !lost && alarm == 0 && crosses_regions(after) {
             *self.crossings.entry(reply[0]).or_insert(0) += 1;
         }
@@ -151,6 +157,7 @@ impl Tally {
         for (identity, replies) in self.identities.iter().enumerate() {
             gaps.extend(replies.gaps(&identity_name(identity), &[1, 2, 3], &ALARMS));
         }
+        gaps.extend(self.lost.gaps());
         gaps.extend(self.places.gaps());
         gaps.extend(self.number_gaps());
         gaps
@@ -278,7 +285,7 @@ impl fmt::Display for Tally {
                 "code {code:02X} accepted over more than one region: {count}"
             )?;
         }
-        write!(formatter, "{}", self.places)?;
+        write!(formatter, "{}{}", self.lost, self.places)?;
         for (&(call, number), count) in &self.numbers {
             writeln!(formatter, "{call:?} with number {number}: {count}")?;
         }

@@ -46,13 +46,15 @@ fn situations(plan: &Plan) -> Vec<(Vec<u8>, Vec<u8>)> {
         build::connect(plan, 2, 1),
     ] {
         let counting = counting_state(length, LAST_MN, 9);
-        let (mut next, mut lost) = (command.clone(), command.clone());
-        build::follow(&mut next, &counting);
-        lost[1] = LAST_MN;
         situations.push((plain_state(length, DISCONNECTED), command.clone()));
-        situations.push((plain_state(length, ASYNC), command));
-        situations.push((counting.clone(), next));
-        situations.push((counting, lost));
+        situations.push((plain_state(length, ASYNC), command.clone()));
+        // In step, and lost by MN and by SN.
+        for wrong in [0x00, 0x01, 0x10] {
+            let mut command = command.clone();
+            build::follow(&mut command, &counting);
+            command[1] ^= wrong;
+            situations.push((counting.clone(), command));
+        }
     }
     situations
 }
@@ -110,9 +112,11 @@ fn record(plan: &Plan, identity: u8) -> Recorder {
     let memory = build::distinct_octets(plan.memory_length());
     let state = counting_state(plan.pdu_length, LAST_MN, 9);
     let mut recorder = Recorder::new(&state, &memory);
-    for (code, mn) in [(0x00, LAST_MN + 1), (0x77, LAST_MN + 2), (0x00, LAST_MN)] {
+    for (code, wrong) in [(0x00, 0x00), (0x77, 0x00), (0x00, 0x10)] {
         let mut command = build::command(plan, code);
-        command[1..3].copy_from_slice(&[mn, identity]);
+        build::follow(&mut command, recorder.current_state());
+        command[1] ^= wrong;
+        command[2] = identity;
         recorder.record(&plan.octets(), &command);
     }
     recorder

@@ -1,9 +1,8 @@
-//! Codes in every link, the watchdog, and CONNECT with every mode.
+//! Codes in every link, and CONNECT with every mode.
 
-use crate::engine::memory_mode;
 use crate::trial::build;
 use crate::trial::plan::{Plan, LENGTHS};
-use crate::trial::probe::{exchange, exchange_from, exchange_in_step, take_plan, Outcome};
+use crate::trial::probe::{exchange_from, take_plan, Outcome};
 use crate::trial::rig::Rig;
 use crate::trial::samples::both_ends;
 use crate::trial::states::{counting_state, plain_state, ASYNC, DISCONNECTED, SYNC};
@@ -19,9 +18,6 @@ pub fn run(rig: &mut Rig) -> Outcome {
         rig.origin = "directed: version and profile of CONNECT".to_string();
         connect_names(rig, &plan)?;
     }
-    rig.origin = "directed: every count of the watchdog".to_string();
-    watchdog(rig, &both_ends(32))?;
-    long_count(rig, &both_ends(8))?;
     rig.origin = "directed: every com_mod with every com_time".to_string();
     connect_modes(rig, &both_ends(8))
 }
@@ -100,63 +96,6 @@ fn connect_modes(rig: &mut Rig, plan: &Plan) -> Outcome {
     for com_mod in 0..=255 {
         for com_time in 0..=255 {
             exchange_from(rig, &state, &build::connect(plan, com_mod, com_time))?;
-        }
-    }
-    Ok(())
-}
-
-/// Every last MN with every MN, some RSN, SN beside them, for five commands.
-fn watchdog(rig: &mut Rig, plan: &Plan) -> Outcome {
-    take_plan(rig, plan);
-    let commands = [
-        build::command(plan, 0x00),
-        build::command(plan, 0x0F),
-        build::command(plan, 0x0E),
-        build::command(plan, 0x77),
-        build::alarm_mode(plan, 0x06, 0),
-        build::memory(plan, 0x1E, memory_mode::octet(1), 3, 1),
-    ];
-    for last_mn in 0..16 {
-        for rsn in [0, 1, last_mn, 14, 15] {
-            for wdt in 0..=255 {
-                let mut state = counting_state(plan.pdu_length, last_mn, rsn);
-                state[9] = 12 * (wdt & 1);
-                for command in &commands {
-                    let mut command = command.clone();
-                    command[1] = wdt;
-                    exchange_from(rig, &state, &command)?;
-                }
-            }
-        }
-    }
-    Ok(())
-}
-
-/// Enters link 3 by each way and counts past 16 twice, then loses the count.
-fn long_count(rig: &mut Rig, plan: &Plan) -> Outcome {
-    take_plan(rig, plan);
-    for entry in [
-        build::connect(plan, 2, 1),
-        build::connect(plan, 6, 2),
-        build::command(plan, 0x0D),
-    ] {
-        let link = if entry[0] == 0x0D {
-            ASYNC
-        } else {
-            DISCONNECTED
-        };
-        for first_mn in 0..16 {
-            exchange_from(rig, &plain_state(plan.pdu_length, link), &entry)?;
-            let mut first = build::command(plan, 0x00);
-            first[1] = first_mn;
-            exchange(rig, &first)?;
-            for code in (0..40).map(|step| if step % 5 == 0 { 0x20 } else { 0x00 }) {
-                exchange_in_step(rig, build::command(plan, code))?;
-            }
-            first[1] = first_mn;
-            exchange(rig, &first)?;
-            exchange(rig, &build::command(plan, 0x0D))?;
-            exchange(rig, &build::command(plan, 0x0F))?;
         }
     }
     Ok(())

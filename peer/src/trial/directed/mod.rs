@@ -12,6 +12,7 @@ mod places;
 mod sheets;
 mod states;
 mod traces;
+mod watchdog;
 mod wrong;
 
 use super::probe::Outcome;
@@ -22,6 +23,7 @@ pub fn run(rig: &mut Rig) -> Outcome {
     buffers::run(rig)?;
     states::run(rig)?;
     links::run(rig)?;
+    watchdog::run(rig)?;
     identities::run(rig)?;
     parameters::run(rig)?;
     data::run(rig)?;

@@ -1,6 +1,6 @@
 //! State records with every octet and every pair of agreeing fields.
 
-use crate::trial::build::distinct_octets;
+use crate::trial::build::{self, distinct_octets};
 use crate::trial::call::Call;
 use crate::trial::plan::{Plan, LENGTHS};
 use crate::trial::probe::Outcome;
@@ -17,10 +17,11 @@ pub fn run(rig: &mut Rig) -> Outcome {
     fields_together(rig, &both_ends(16))
 }
 
-/// All calls that take a state.
+/// All calls that take a state; the exchange has the WDT that it asks for.
 fn judge_state(rig: &mut Rig, plan: &Plan, state: &[u8]) -> Outcome {
     let length = usize::from(plan.pdu_length);
     rig.inputs.command = vec![0; length];
+    build::follow(&mut rig.inputs.command, state);
     rig.inputs.reply = vec![0xEE; length];
     rig.inputs.trace.clear();
     for call in [Call::Exchange, Call::Enable, Call::Reset, Call::Replay] {

@@ -18,8 +18,9 @@ const LACKING: Told = (10, 2);
 const NUMBER: u16 = 0x0203;
 const ITEM: u8 = 0x42;
 const START: u64 = 0x40;
-/// The last MN of the state that counts.
+/// The counters of the state that counts.
 const LAST_MN: u8 = 3;
+const RSN: u8 = 9;
 
 pub fn run(rig: &mut Rig) -> Outcome {
     rig.origin = "directed: fields of a command wrong at once".to_string();
@@ -194,7 +195,7 @@ fn every_set(rig: &mut Rig, plan: &Plan, case: &Case) -> Outcome {
 
 /// Told in the links that allow the code; link, code and watchdog have place 0.
 fn in_every_link(rig: &mut Rig, plan: &Plan, command: &[u8], told: Told) -> Outcome {
-    let counting = counting_state(plan.pdu_length, LAST_MN, 9);
+    let counting = counting_state(plan.pdu_length, LAST_MN, RSN);
     let connect = command[0] == 0x0E;
     let mut unknown = command.to_vec();
     unknown[0] |= 0x60;
@@ -208,7 +209,11 @@ fn in_every_link(rig: &mut Rig, plan: &Plan, command: &[u8], told: Told) -> Outc
     let expected = if connect { OTHER_LINK } else { told };
     expect_told_in_step(rig, &counting, command, expected)?;
     expect_told_in_step(rig, &counting, &unknown, UNKNOWN_CODE)?;
-    let mut lost = command.to_vec();
-    lost[1] = LAST_MN;
-    expect_told(rig, &counting, &lost, LOST_CYCLE)
+    // By MN, by SN, and by both.
+    for wdt in [RSN << 4 | LAST_MN, 0x10 | (LAST_MN + 1), 0x10 | LAST_MN] {
+        let mut lost = command.to_vec();
+        lost[1] = wdt;
+        expect_told(rig, &counting, &lost, LOST_CYCLE)?;
+    }
+    Ok(())
 }
