@@ -1,7 +1,7 @@
 -- The owner's page, proved.
 use Rattle.law.proofs.ByTables.{by-tables, one-reading}
 use Rattle.law.proofs.Promises.{promises}
-use Rattle.demands.specs.Demands.{FirstDemand, SecondDemand, ThirdDemand, IdlePrograms, OnTheBench, Request1, Request3, Request6, Request8}
+use Rattle.demands.specs.Demands.{FirstDemand, SecondDemand, ThirdDemand, IdlePrograms, OnTheBench, Request1, Request3, Request5, Request6, Request8}
 use Rattle.demands.proofs.Agreed.{traces-have-replies, agrees-exactly}
 use Rattle.demands.proofs.Alone.{refuses-all-keeps-secrets, single-reply-keeps-secrets, stores-nothing-keeps-secrets, echoes-afterwards-keeps-secrets, invents-rsn-keeps-secrets, invents-rsn-agrees-where-reached}
 use Rattle.demands.proofs.Bench.{sheet-p-is-valid, bench-cases}
@@ -22,6 +22,7 @@ use Rattle.demands.proofs.Reached.{secrets-in-replay, only-agreeing-rea
 use Rattle.demands.proofs.Runs.{refused-changes-nothing, states-stay-valid, memory-keeps-its-length, demand-3}
 use Rattle.demands.proofs.Shut.{refuses-all-is-shut-out, single-reply-is-shut-out, stores-nothing-is-shut-out, echoes-afterwards-is-shut-out, invents-rsn-is-shut-out}
 use Rattle.demands.proofs.Unique.{one-answers}
+use Rattle.demands.proofs.Watchdog.{same-sn-fails, master-never-fails}
 
 pub first-demand : FirstDemand
 first-demand = record {
@@ -70,6 +71,9 @@ request-3 = record {
   the-first-without-the-right = first-without-the-right;
   demand-3-covers-the-place = places-are-the-same;
 }
+
+pub request-5 : Request5
+request-5 = record { the-same-sn-twice-fails = same-sn-fails; a-master-that-reads-never-fails = master-never-fails }
 
 pub request-6 : Request6
 request-6 = record {

@@ -1,7 +1,7 @@
 -- An answered exchange is the law's, and what a host reads in what it leaves.
 --     answered-done                               what is left, by the law
 --     seen-whole, seen-code, seen-alarm           the reply's length, code and alarm
---     seen-identity                               the command's identity in the reply
+--     seen-identity, seen-rwdt                    the command's identity in the reply; RWDT
 --     seen-zero                                   without a body all octets behind the head are 0
 --     seen-link                                   the link afterwards is what the command made of it
 use mathlib.Core.Bool.{Bool, true, false, _&&_}
@@ -29,6 +29,7 @@ use Rattle.law.proofs.Laid.{over-length, over-at, laid-before, lies-past}
 use Rattle.law.proofs.Layouts.{layoutFor}
 use Rattle.demands.specs.Answered.{Answered, alarmIn}
 use Rattle.demands.specs.Identity.{identityIn}
+use Rattle.demands.specs.Watchdog.{rwdt}
 use Rattle.demands.proofs.Fates.{headSize, fate-body, fate-small}
 
 pub least-length : (l : ℕ) → FiveLengths l → 8 ≤ l
@@ -90,6 +91,10 @@ module _ (h : Sheet) (s m c : List ℕ) (long : 8 ≤ h .l) where
   pub seen-code : code (lawful h s m c .reply) ≡ code c
   unfolding laid when
   seen-code = seen-head _ (omega arith)
+
+  pub seen-rwdt : rwdt (lawful h s m c .reply) ≡ when (eqb (link t) 3) (16 * rsn t + mn c) 0
+  unfolding laid when
+  seen-rwdt = seen-head _ (omega arith)
 
   bit-small : (b : Bool) → when b 0 1 ≤ 1
   unfolding when

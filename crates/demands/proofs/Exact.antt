@@ -39,7 +39,7 @@ module _ (h : Sheet) (sheet s m c r : List ℕ) (a : Answered h sheet s m c r) w
   alarm-is : (f : Fate) → fateOf h s m c ≡ f → alarmIn (x .reply) ≡ f .alarm
   alarm-is f e = ap (λ (l : Left). alarmIn (l .reply)) (answered-done h sheet s m c r a) ∙ seen-alarm h s m c long ∙ ap (λ (g : Fate). g .alarm) e
 
-  link-is : (f : Fate) → fateOf h s m c ≡ f → link (x .state) ≡ laid (f .changes) 1 (link s)
+  pub link-is : (f : Fate) → fateOf h s m c ≡ f → link (x .state) ≡ laid (f .changes) 1 (link s)
   link-is f e =
       ap (λ (l : Left). link (l .state)) (answered-done h sheet s m c r a) ∙ seen-link h s m c long ten ∙ ap (λ (g : Fate). laid (g .changes) 1 (link s)) e
 
@@ -52,7 +52,7 @@ module _ (h : Sheet) (sheet s m c r : List ℕ) (a : Answered h sheet s m c r) w
         not-lost = λ three two. row-stays h s m c three (sym (link-is row k) ∙ two);
       }
 
-  lost-link : (n : ℕ) → laid (lost .changes) 1 n ≡ 2
+  pub lost-link : (n : ℕ) → laid (lost .changes) 1 n ≡ 2
   unfolding laid when
   lost-link n = refl
 

@@ -79,21 +79,29 @@ module _ (s : List ℕ) (P : Fate → Type 0) (not-done : (a place : ℕ) → Na
   abbrev Done : Row → Type 0
   Done r = oneOf (link s) (r .links) ≡ true → Every Holds (r .checks) → P (doneRow r)
 
-  pub judged-by : (code : ℕ) (rs : List Row) → namedRows rs ≡ true → Every Done rs → P (judged s code rs)
+  -- only the row of the code counts
+  pub judged-in : (code : ℕ) (rs : List Row) → namedRows rs ≡ true → Every (λ (r : Row). code ≡ r .code → Done r) rs → P (judged s code rs)
   unfolding judged
-  judged-by code [] e all = not-done 8 0 (record { some = omega arith; small = omega arith; whole = λ t. refl })
-  judged-by code (r ∷ rs) e all =
+  judged-in code [] e all = not-done 8 0 (record { some = omega arith; small = omega arith; whole = λ t. refl })
+  judged-in code (r ∷ rs) e all =
       let p = both _ _ e in
       when-cases P (eqb code (r .code))
-      (λ t. checked-by (check (oneOf (link s) (r .links)) 12 0 ∷ r .checks) r (p .0) (λ q. all .0 (q .0) (q .1)))
-      (λ f. judged-by code rs (p .1) (all .1))
+      (λ t. checked-by (check (oneOf (link s) (r .links)) 12 0 ∷ r .checks) r (p .0) (λ q. all .0 (eqb-true code (r .code) t) (q .0) (q .1)))
+      (λ f. judged-in code rs (p .1) (all .1))
+
+  any-code : (code : ℕ) (rs : List Row) → Every Done rs → Every (λ (r : Row). code ≡ r .code → Done r) rs
+  any-code code [] all = tt
+  any-code code (r ∷ rs) all = (λ e. all .0, any-code code rs (all .1))
+
+  pub judged-by : (code : ℕ) (rs : List Row) → namedRows rs ≡ true → Every Done rs → P (judged s code rs)
+  judged-by code rs e all = judged-in code rs e (any-code code rs all)
 
 -- how many octets the law's head has
 abbrev pub headSize : ℕ
 headSize = length (headFor [] 0 [])
 
 module _ (h : Sheet) (s m c : List ℕ) where
-  named : namedRows (table h s m c) ≡ true
+  pub named : namedRows (table h s m c) ≡ true
   named = refl
 
   pub fate-by : (P : Fate → Type 0) → P lost → ((a place : ℕ) → Named a place → P (refused s a place))
@@ -244,7 +252,7 @@ module _ (h : Sheet) (s m c : List ℕ) where
       )
 
   -- a refused command keeps the link
-  latch-stays : (b : Bool) (a x : ℕ) → laid (when b (piece 8 (a ∷ []) ∷ []) []) 1 x ≡ x
+  pub latch-stays : (b : Bool) (a x : ℕ) → laid (when b (piece 8 (a ∷ []) ∷ []) []) 1 x ≡ x
   unfolding when laid
   latch-stays true a x = refl
   latch-stays false a x = refl

@@ -15,6 +15,7 @@ pub mod Identity
 pub mod Mapped
 pub mod Places
 pub mod Lacking
+pub mod Watchdog
 pub mod Shut
 pub mod Replays
 pub mod Agreed

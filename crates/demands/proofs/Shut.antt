@@ -57,10 +57,10 @@ echoes-afterwards-is-shut-out d =
     let e : _≡_ {A = ℕ} 0 5 = ap (λ (ls : List Left). getD (nth 1 ls .reply) 2 0) both in
     omega arith
 
--- at case 10: RWDT is 10 hex and not F0 hex
+-- at case 10: RWDT is 60 hex and not F0 hex
 pub invents-rsn-is-shut-out : Demand2 inventsRsn → ⊥
 unfolding inventsRsn
 invents-rsn-is-shut-out d =
     let run = runs case10a [] (comes 11) in
-    let e : _≡_ {A = ℕ} 240 16 = ap (λ (ls : List Left). getD (nth 0 ls .reply) 1 0) (sym (ap (map inventing) run) ∙ d _ _ _ _ ∙ run) in
+    let e : _≡_ {A = ℕ} 240 96 = ap (λ (ls : List Left). getD (nth 0 ls .reply) 1 0) (sym (ap (map inventing) run) ∙ d _ _ _ _ ∙ run) in
     omega arith

@@ -25,6 +25,7 @@ use Rattle.demands.specs.Refused.{RefusedChangesNothing, StatesStayValid
 use Rattle.demands.specs.Replays.{TracesHaveReplies, AgreesExactly, ReplayIsFold, CutInTwo, FormsJoin, ReplayCutInTwo, SecretsInReplay, OnlyAgreeingReach, ReplayPlays, RecordsAreAnswered, SecretsInWholeReplay, RefusedReplayWritesNothing}
 use Rattle.demands.specs.Sequences.{Call, runOf, History}
 use Rattle.demands.specs.Unique.{OneAnswers}
+use Rattle.demands.specs.Watchdog.{SameSnFails, MasterNeverFails}
 use Rattle.demands.specs.Writes.{WritesOwnOctets, MemoryKeepsItsLength}
 
 -- "1. Each call answers on every input. .. A refused call gives its number and, for the sheet, the place; state, memory and reply then hold what they
@@ -90,6 +91,14 @@ pub record Request3 : Type 0 where
   pub the-first-without-the-right : FirstWithoutTheRight
   -- "Demand 3 covers the place."
   pub demand-3-covers-the-place : PlacesAreTheSame
+
+-- Document 02, request 5, "The watchdog is a two-way matter": "With MN known, link 3 shall require that MN follows and that SN equals the state's RSN. .. Demands
+-- 2 and 3 read with the new check." Demands 1 to 3 and the bench cases above are of the machine with it.
+pub record Request5 : Type 0 where
+  -- a master that has stopped reading our replies is noticed, whatever MN does
+  pub the-same-sn-twice-fails : SameSnFails
+  -- and one that reads them never fails check 1
+  pub a-master-that-reads-never-fails : MasterNeverFails
 
 -- Document 02, request 6, "Replay the fitter's trace", of the replay as it is defined.
 pub record Request6 : Type 0 where

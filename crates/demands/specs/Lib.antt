@@ -11,6 +11,7 @@ pub mod Idle
 pub mod Identity
 pub mod Mapped
 pub mod Places
+pub mod Watchdog
 pub mod Replays
 pub mod Unique
 pub mod Bench

@@ -20,7 +20,7 @@ use Rattle.law.specs.Sheet.{Sheet}
 use Rattle.law.specs.State.{link}
 use Rattle.law.specs.Memory.{readable, writable}
 use Rattle.law.specs.Table.{check, Row, table}
-use Rattle.law.specs.Exchange.{Fate, fate, code, mn, refused, checked, judged, lost as lostCycle, fateOf}
+use Rattle.law.specs.Exchange.{Fate, fate, code, mn, sn, refused, checked, judged, lost as lostCycle, fateOf}
 use Rattle.link.specs.Steps.{followsOf, lost, synced, dropped}
 use Rattle.link.specs.Stored.{octetsOf}
 use Rattle.link.specs.declared.state.LinkState.{LinkState}
@@ -162,7 +162,7 @@ module _ (h : Sheet) (sheet : List ℕ) (st : LinkState) (m c : List ℕ) (facts
   named-same =
       let n = named (code c) c in
       subst (λ (b : Bool). Same h sheet st m c (pick (eqb (st .link) 3 && b) (comesTo 0 Whole Quiet (lost st)) (finished st n (judgeOf sheet (layoutFor h) st n))) (fateOf h s m c))
-      (sym (follows (st .watch .known) (facts .known) (eqb (mn c) ((st .watch .last + 1) % 16))))
+      (sym (follows (st .watch .known) (facts .known) (eqb (mn c) ((st .watch .last + 1) % 16) && eqb (sn c) (st .watch .rsn))))
       (lost-or _ (λ e. and-first _ _ e) (judge-same (code c)))
 
   pub outcome-same : Same h sheet st m c (outcomeOf sheet (layoutFor h) st (commandOf c)) (fateOf h s m c)

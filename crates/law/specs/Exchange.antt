@@ -16,6 +16,9 @@ code c = octet c 0
 abbrev pub mn : List ℕ → ℕ
 mn c = octet c 1 % 16
 
+abbrev pub sn : List ℕ → ℕ
+sn c = octet c 1 / 16
+
 abbrev pub identity : List ℕ → ℕ
 identity c = octet c 2 / 64 % 4
 
@@ -46,12 +49,13 @@ judged s code [] = refused s 8 0
 judged s code (r ∷ rs) = when (eqb code (r .code)) (checked s (check (oneOf (link s) (r .links)) 12 0 ∷ r .checks) r) (judged s code rs)
 
 -- "1. Link 3 with MN known: MN must be last MN plus 1, modulo 16. If not, nothing is executed, the body is zero, the communication latch becomes 12, the
--- command alarm is 0, the link becomes 2."
+-- command alarm is 0, the link becomes 2." Request 5: "With MN known, link 3 shall require that MN follows and that SN equals the state's RSN. Failure of
+-- either is check 1 as it stands."
 abbrev pub lost : Fate
 lost = fate 0 0 (piece 1 (2 ∷ []) ∷ piece 9 (12 ∷ []) ∷ []) [] []
 
 abbrev pub missed : List ℕ → List ℕ → Bool
-missed s c = eqb (link s) 3 && (eqb (mnKnown s) 1 && not (eqb (mn c) ((lastMn s + 1) % 16)))
+missed s c = eqb (link s) 3 && (eqb (mnKnown s) 1 && not (eqb (mn c) ((lastMn s + 1) % 16) && eqb (sn c) (rsn s)))
 
 unfoldable pub fateOf : Sheet → List ℕ → List ℕ → List ℕ → Fate
 fateOf h s m c =

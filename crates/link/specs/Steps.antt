@@ -1,7 +1,7 @@
 -- The steps of the link state. Document 01, "The state record" and "One exchange". Links: 0 Disabled, 1 Disconnected, 2 AsyncConnected,
 -- 3 SyncConnected.
-use Prim.Native.Nat.{ℕ, _+_, _%_}
-use mathlib.Core.Bool.{Bool, _||_}
+use Prim.Native.Nat.{ℕ, _+_, _/_, _%_}
+use mathlib.Core.Bool.{Bool, _&&_, _||_}
 use lib.Dec.{eqb}
 use Rattle.octets.specs.Pick.{pick}
 use Rattle.link.specs.declared.state.Watch.{Watch}
@@ -11,9 +11,9 @@ use Rattle.link.specs.declared.state.LinkState.{LinkState}
 abbrev pub idle : Watch
 idle = record { known = 0; last = 0; rsn = 0 }
 
--- "MN must be last MN plus 1, modulo 16", where it is known; MN is the low half of WDT
+-- where MN is known: "MN must be last MN plus 1, modulo 16"; request 5: and "SN equals the state's RSN". MN is the low half of WDT, SN the high half
 unfoldable pub followsOf : Watch → ℕ → Bool
-followsOf w wdt = eqb (w .known) 0 || eqb (wdt % 16) ((w .last + 1) % 16)
+followsOf w wdt = eqb (w .known) 0 || (eqb (wdt % 16) ((w .last + 1) % 16) && eqb (wdt / 16) (w .rsn))
 
 -- reset: "it writes Disabled with the sheet's L and zeros"
 abbrev pub fresh : ℕ → LinkState

@@ -44,11 +44,12 @@ impl Watch {
         }
     }
 
-    // Whether the command's WDT octet follows: its low half is the last MN plus 1, where that is known.
+    // Whether the command's WDT octet follows, where MN is known: its low half is the last MN plus 1, its high half RSN, which the master has from our reply.
     pub fn follows(self, wdt: u8) -> bool
         ensures { λ r. ⌜ r ≡ followsOf self wdt ⌝ }
     {
-        (self.known == 0) | (wdt as u16 % 16 == (self.last as u16 + 1) % 16)
+        (self.known == 0)
+            | ((wdt as u16 % 16 == (self.last as u16 + 1) % 16) & (wdt / 16 == self.rsn))
     }
 }
 
