@@ -1,4 +1,5 @@
-// A difference: the record, its command, why ours is refused if it is, and the two replies with a mark below the first octet in which they differ.
+// A difference: the record, its command, why ours is refused or not executed if it is, and the two replies with a mark below the first octet in which they
+// differ.
 
 // The marker line, below the digits of the octet.
 fn print_mark(octet: usize) {
@@ -18,7 +19,8 @@ fn print_replies(ours: &[u8], reply: &[u8], octet: usize) {
     print_mark(octet);
 }
 
-// Our reply, made once more in lent room: state and memory stand as before the record, and nothing uses them afterwards.
+// Our reply, made once more in lent room: state and memory stand as before the record, and nothing uses them afterwards; what the watchdog
+// asks is seen first, since the exchange changes it.
 fn print_ours(
     sheet: &[u8],
     state: &mut [u8],
@@ -28,6 +30,7 @@ fn print_ours(
     octet: usize,
     room: &mut [u8],
 ) {
+    words::watchdog::print_failed(state, command);
     let told = slave::exchanging::exchange(sheet, state, memory, command, room);
     words::refused::print_refused(command, room, told.place);
     print_replies(room, reply, octet);
