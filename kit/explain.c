@@ -104,13 +104,17 @@ static void end_progress(struct replay *run)
         fprintf(stderr, "\n");
 }
 
-/* Refused with an alarm, or a lost cycle, which alone goes from link 3 to 2. */
-static int was_executed(const struct replay *run, uint8_t link_before,
-                        const uint8_t *reply)
+/* Whether our watchdog fails at the command, and then why; to be asked before
+ * the exchange, which changes the state record. */
+static int print_lost(const struct replay *run, const uint8_t *command)
 {
-    return t24_reply_alarm(reply) == T24_ALARM_NONE
-        && !(link_before == T24_LINK_SYNC
-             && run->state.octets[T24_AT_LINK] == T24_LINK_ASYNC);
+    char words[256];
+
+    if (!t24_watchdog_fails(run->state.octets, command))
+        return 0;
+    t24_watchdog_words(run->state.octets, command, words, sizeof words);
+    printf("ours failed the watchdog: %s\n", words);
+    return 1;
 }
 
 /* Which octet of the command was wrong, where our reply refuses it. */
@@ -135,10 +139,10 @@ static int differs(struct replay *run, size_t record, size_t octet)
     const size_t at = record * run->size;
     const uint8_t *command = run->trace.octets + at + T24_TRACE_AT_COMMAND;
     const uint8_t *theirs = command + run->l;
-    const uint8_t link = run->state.octets[T24_AT_LINK];
     uint8_t ours[T24_L_MAX];
     char words[256];
     uint64_t answer;
+    int lost;
 
     printf("record %lu, at octet %lu of the trace, differs at octet %lu of its "
            "reply\n", (unsigned long)record, (unsigned long)at,
@@ -147,6 +151,7 @@ static int differs(struct replay *run, size_t record, size_t octet)
     printf("command: %s\n", words);
     t24_state_words(run->state.octets, words, sizeof words);
     printf("before:  %s\n", words);
+    lost = print_lost(run, command);
     answer = t24_exchange(run->sheet.octets, run->sheet.len, run->state.octets,
                           run->state.len, run->memory.octets, run->memory.len,
                           command, run->l, ours, run->l);
@@ -156,7 +161,7 @@ static int differs(struct replay *run, size_t record, size_t octet)
     print_marks(ours, theirs, run->l);
     printf("octet %lu: %s\n", (unsigned long)octet,
            t24_reply_octet_words(command[T24_COMMAND_AT_CODE], octet,
-                                 was_executed(run, link, ours)));
+                                 !lost && t24_reply_alarm(ours) == 0));
     print_status("ours:  ", ours);
     print_status("trace: ", theirs);
     return DIFFERS;

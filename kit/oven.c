@@ -96,17 +96,29 @@ static int refused(const struct host *host, const char *name, uint32_t alarm,
     return 0;
 }
 
+/* Says why a cycle was lost: MN and SN, as expected and as sent. */
+static int lost(const struct host *host, const char *name,
+                const uint8_t *before)
+{
+    char words[256];
+
+    t24_watchdog_words(before, host->command, words, sizeof words);
+    fprintf(stderr, "%s not executed, a cycle was lost: %s\n", name, words);
+    return 0;
+}
+
 /* One exchange; tells 1 if the command was accepted and executed. */
 static int exchange(struct host *host, const char *name)
 {
-    const uint8_t before = host->state[T24_AT_LINK];
-    const uint64_t answer =
-        t24_exchange(host->sheet, host->sheet_len, host->state, sizeof host->state,
-                     host->memory, host->memory_len, host->command, host->l,
-                     host->reply, host->l);
+    uint8_t before[T24_STATE_LEN]; /* the exchange changes the state */
+    uint64_t answer;
     uint32_t alarm;
     size_t i;
 
+    memcpy(before, host->state, sizeof before);
+    answer = t24_exchange(host->sheet, host->sheet_len, host->state,
+                          sizeof host->state, host->memory, host->memory_len,
+                          host->command, host->l, host->reply, host->l);
     if (!done(host, name, answer))
         return 0;
     printf("%-10s ", name);
@@ -114,22 +126,19 @@ static int exchange(struct host *host, const char *name)
         printf("%02X", host->reply[i]);
     printf("\n");
     fflush(stdout);
-    if (t24_reply_communication_alarm(host->reply) != T24_ALARM_NONE)
-        fprintf(stderr, "%s: %s\n", name,
-                t24_communication_words(T24_ALARM_COMMUNICATION));
+    if (t24_watchdog_fails(before, host->command))
+        return lost(host, name, before);
     alarm = t24_reply_alarm(host->reply);
-    /* From Sync to Async by anything but an alarm: this cycle was lost. */
-    if (alarm == T24_ALARM_NONE)
-        return before != T24_LINK_SYNC
-            || host->state[T24_AT_LINK] != T24_LINK_ASYNC;
-    return refused(host, name, alarm, answer);
+    return alarm == T24_ALARM_NONE || refused(host, name, alarm, answer);
 }
 
-/* A fresh command: all octets zero but the code. */
+/* A fresh command: all octets zero but the code and WDT, which follows the last
+ * reply; out of step, WDT is not looked at. */
 static uint8_t *command(struct host *host, uint8_t code)
 {
     memset(host->command, 0, sizeof host->command);
     host->command[T24_COMMAND_AT_CODE] = code;
+    host->command[T24_COMMAND_AT_WDT] = t24_next_wdt(host->reply);
     return host->command;
 }
 
@@ -146,22 +155,48 @@ static uint8_t *memory_command(struct host *host, uint8_t code, uint32_t address
     return octets;
 }
 
-static int bake(struct host *host)
+/* By com_mod out of step or in step. */
+static int connect_by(struct host *host, uint8_t com_mod)
 {
     uint8_t *octets = command(host, T24_CONNECT);
-    int accepted;
 
     octets[T24_CONNECT_AT_VERSION] = host->sheet[T24_SHEET_AT_VERSION];
-    octets[T24_CONNECT_AT_COM_TIME] = 1; /* com_mod 0 is asynchronous */
+    octets[T24_CONNECT_AT_COM_MOD] = com_mod;
+    octets[T24_CONNECT_AT_COM_TIME] = 1;
     octets[T24_CONNECT_AT_PROFILE] = host->sheet[T24_SHEET_AT_PROFILE];
-    accepted = exchange(host, "CONNECT");
+    return exchange(host, "CONNECT");
+}
+
+static int disconnect(struct host *host)
+{
+    command(host, T24_DISCONNECT);
+    return exchange(host, "DISCONNECT");
+}
+
+/* Out of step: the oven is set. */
+static int bake(struct host *host)
+{
+    uint8_t *octets;
+    int accepted = connect_by(host, 0);
+
     memory_command(host, T24_MEM_RD, 0x1000);
     accepted = exchange(host, "MEM_RD") && accepted;
     octets = memory_command(host, T24_MEM_WR, 0x1000);
     octets[T24_MEM_AT_DATA] = 0xB4; /* 180 degrees, low octet first */
     accepted = exchange(host, "MEM_WR") && accepted;
-    command(host, T24_DISCONNECT);
-    return exchange(host, "DISCONNECT") && accepted;
+    return disconnect(host) && accepted;
+}
+
+/* In step: the band runs, and each side sees that the other still listens. */
+static int run_band(struct host *host)
+{
+    int cycle, accepted = connect_by(host, T24_COM_SYNC);
+
+    for (cycle = 0; cycle < 3; cycle++) {
+        memory_command(host, T24_MEM_RD, 0x1000);
+        accepted = exchange(host, "MEM_RD") && accepted;
+    }
+    return disconnect(host) && accepted;
 }
 
 int main(int argc, char **argv)
@@ -173,7 +208,11 @@ int main(int argc, char **argv)
         fprintf(stderr, "usage: oven SHEET\n");
         return 2;
     }
-    good = load_sheet(&host, argv[1]) && bring_up(&host) && bake(&host);
+    good = load_sheet(&host, argv[1]) && bring_up(&host);
+    if (good) {
+        good = bake(&host);
+        good = run_band(&host) && good;
+    }
     free(host.memory);
     return good ? 0 : 1;
 }

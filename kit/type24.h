@@ -18,10 +18,11 @@
  *  - Numbers of more than one octet in sheet, command and reply are sent low
  *    octet first.
  *
- * type24_octets.h has the octets of sheet, state record, commands and replies
- * and comes with this header; type24_words.h makes detailed words and comes
- * where a host includes it.  RULES is the page RULES.md, with its section; those
- * from 3 to 9 are pages of their own beside it, in rules.
+ * type24_octets.h has the octets of sheet, state record, commands and replies,
+ * type24_watchdog.h the counts that are sent in step; both come with this
+ * header.  type24_words.h makes detailed words and comes where a host includes
+ * it.  RULES is the page RULES.md, with its section; those from 3 to 9 are pages
+ * of their own beside it, in rules.
  */
 #ifndef TYPE24_H
 #define TYPE24_H
@@ -29,7 +30,8 @@
 #include <stddef.h>
 #include <stdint.h>
 
-#include "type24_octets.h" /* places, kinds, links, codes, commands */
+#include "type24_octets.h"   /* places, kinds, links, codes, commands */
+#include "type24_watchdog.h" /* WDT and RWDT */
 
 #define T24_VERSION "1.0.0" /* T24_PROVED_WITH stands in type24_version.h */
 
@@ -72,7 +74,7 @@
 #define T24_ALARM_DATA 9           /* a field of the command is wrong */
 #define T24_ALARM_RIGHTS 10        /* the span lacks the right somewhere */
 #define T24_ALARM_LINK 12          /* code not allowed in this link */
-#define T24_ALARM_COMMUNICATION 12 /* watchdog: MN did not follow */
+#define T24_ALARM_COMMUNICATION 12 /* MN did not follow, or SN was not RSN */
 
 #ifdef __cplusplus
 extern "C" {
@@ -217,8 +219,8 @@ static inline size_t t24_memory(uint64_t lengths)
 
 /*
  * The alarm of this command in a built reply: T24_ALARM_NONE if accepted, and
- * where the watchdog failed, so that nothing was executed: then the state's
- * link went from T24_LINK_SYNC to T24_LINK_ASYNC (RULES 6.4).
+ * where the watchdog failed, by MN or by SN, so that nothing was executed: then
+ * the state's link went from T24_LINK_SYNC to T24_LINK_ASYNC (RULES 6.4).
  */
 static inline uint32_t t24_reply_alarm(const uint8_t *reply)
 {
@@ -285,7 +287,8 @@ static inline const char *t24_communication_words(uint32_t alarm)
 {
     switch (alarm) {
     case T24_ALARM_NONE: return "none";
-    case T24_ALARM_COMMUNICATION: return "a cycle was lost: MN did not follow";
+    case T24_ALARM_COMMUNICATION:
+        return "a cycle was lost: MN did not follow, or SN was not RSN";
     default: return "not an alarm of this library";
     }
 }

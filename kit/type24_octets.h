@@ -77,10 +77,10 @@
 /*
  * Every command has L octets (RULES 2.3):
  *   0     the code
- *   1     WDT: low half MN, which in SyncConnected has to be one more, modulo
- *         16, than in the command before (RULES 6.4), but for the first
- *         behind the one that entered SyncConnected, which may have any; high
- *         half SN, not looked at
+ *   1     WDT: low half MN, high half SN.  In SyncConnected MN has to be one
+ *         more, modulo 16, than in the command before, and SN has to be RSN of
+ *         the reply before (RULES 6.4), but for the first behind the one that
+ *         entered SyncConnected, which may have any; t24_next_wdt() makes WDT
  *   2     control: T24_IDENTITY, which the reply has again, so that a master
  *         that repeats a command can tell the replies apart; other bits are
  *         not looked at

@@ -1,7 +1,7 @@
 /*
  * type24_words.h - what a fitter wants to read, in words: why a call refused,
- * the fault of a sheet or a trace, a command, which octet of it was wrong, a
- * status, a state record, an octet of a reply.
+ * the fault of a sheet or a trace, a command, which octet of it was wrong, why a
+ * cycle was lost, a status, a state record, an octet of a reply.
  *
  * A host includes this header where it wants them; type24.h comes with it, and
  * nothing of the C library is needed.  Functions with text and text_len write
@@ -16,6 +16,7 @@
  *   t24_reply_octet_words  executed or not             type24_pdu_words.h
  *   t24_field_words        a refused command's field   type24_field_words.h
  *   t24_refused_command_words  why it was refused      type24_field_words.h
+ *   t24_watchdog_words     why a cycle was lost        type24_watchdog_words.h
  *   t24_status_words       a reply's status            here
  *   t24_trace_words        an answer of t24_replay     here
  *   t24_refusal_words      an answer of any call       here
@@ -29,6 +30,7 @@
 #include "type24_sheet_words.h"
 #include "type24_state_words.h"
 #include "type24_text.h"
+#include "type24_watchdog_words.h"
 
 /*
  * The status of a reply (RULES 6.2 and 6.3), of which octets 2 and 3 are

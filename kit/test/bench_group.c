@@ -123,7 +123,7 @@ static void case_10(void)
     static const uint8_t after0[10] = { 0x11, 3, 0x10, 0, 1, 1, 0, 6, 0, 0 };
     static const uint8_t last3[10] = { 0x11, 3, 0x10, 0, 1, 1, 3, 5, 0, 0 };
     static const uint8_t dropped[10] = { 0x11, 2, 0x10, 0, 1, 0, 0, 0, 0, 12 };
-    static const pdu mn0 = { 0x00, 0x00 }, mn3 = { 0x00, 0x03 };
+    static const pdu mn0 = { 0x00, 0x50 }, mn3 = { 0x00, 0x53 }; /* SN is RSN */
     static const pdu mn0_reply = { 0x00, 0x60, 4, 0 };
 
     start(10, mn0);

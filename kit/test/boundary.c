@@ -43,6 +43,12 @@ static const struct group groups[] = {
     { "places: alarm 10, mixed rights", lacking_mixed },
     { "places: alarm 10, each octet of a span", lacking_each_octet },
     { "places: alarm 10, or alarm 9 at the address", lacking_or_unmapped },
+    { "watchdog: MN, SN and both", watchdog_cases },
+    { "watchdog: each SN, each RSN, each MN", watchdog_every_wdt },
+    { "watchdog: where nothing is asked", watchdog_not_asked },
+    { "watchdog: the next WDT, by every RWDT", master_next_wdt },
+    { "watchdog: a master that uses it", master_in_step },
+    { "watchdog: a master that repeats SN", master_repeats_sn },
     { "identity: comes back in every reply", identity_comes_back },
     { "identity: other bits of control ignored", identity_others_ignored },
     { "identity: at every L", identity_every_l },
@@ -70,6 +76,7 @@ static const struct group groups[] = {
     { "words: fields of refused commands", words_fields },
     { "words: any code, alarm and place", words_fields_of_any },
     { "words: refused commands", words_refused_commands },
+    { "words: lost cycles", words_watchdog },
     { "each number met at each call that has it", all_numbers_met }
 };
 

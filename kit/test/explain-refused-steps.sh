@@ -17,14 +17,27 @@ trace: alarm 9, a field of the command is wrong; a latch is set
 END
     explained 1 stdout trace sheet.bin in-step.bin memory.bin lost.bin <<'END'
 record 0, at octet 0 of the trace, differs at octet 12 of its reply
-command: 1D MEM_RD address 00001002, 2 octets; MN 3, SN 0
+command: 1D MEM_RD address 00001002, 2 octets; MN 3, SN 5
 before:  link 3 SyncConnected, last MN 3, RSN 5, command latch 0, communication latch 0
+ours failed the watchdog: MN 4 expected, 3 seen; SN 5 expected, 5 seen
 ours:  1D0005C0000000000000000000000000
 trace: 1D0005C00000000000000000AABB0000
                                ^^^^
 octet 12: the body of a refused or not executed command is zero
-ours:  alarm 0, none; communication latch 12, a cycle was lost: MN did not follow; a latch is set
-trace: alarm 0, none; communication latch 12, a cycle was lost: MN did not follow; a latch is set
+ours:  alarm 0, none; communication latch 12, a cycle was lost: MN did not follow, or SN was not RSN; a latch is set
+trace: alarm 0, none; communication latch 12, a cycle was lost: MN did not follow, or SN was not RSN; a latch is set
+END
+    explained 1 stdout trace sheet.bin in-step.bin memory.bin unread.bin <<'END'
+record 0, at octet 0 of the trace, differs at octet 1 of its reply
+command: 1D MEM_RD address 00001002, 2 octets; MN 4, SN 7
+before:  link 3 SyncConnected, last MN 3, RSN 5, command latch 0, communication latch 0
+ours failed the watchdog: MN 4 expected, 4 seen; SN 5 expected, 7 seen
+ours:  1D0005C0000000000000000000000000
+trace: 1D6404000021010002100000AABB0000
+         ^^^^^^  ^^^^  ^^^^    ^^^^
+octet 1: RWDT
+ours:  alarm 0, none; communication latch 12, a cycle was lost: MN did not follow, or SN was not RSN; a latch is set
+trace: accepted
 END
 }
 
@@ -34,7 +47,7 @@ make_refused_traces() {
     hex connect.bin "22 0E000000300001000000000000000000 0E000400300001000000000000000000" # in link 2
     hex number.bin "22 01000000080002000000000000000000 01000400080002000000000000000000"
     hex lacking.bin "22 1D000000002102000210000000000000 1D0004000021020002100000AABB0E0F" # 1004 may not be read
-    hex set.bin "22 0204000007000200B400000000000000 0264040007000200B400000000000000"     # in link 3, MN 4
+    hex set.bin "22 0254000007000200B400000000000000 0264040007000200B400000000000000"     # in link 3, MN 4, SN 5
 }
 
 # refused_command STATE TRACE WORDS: the line that says why ours is refused, and the only one.

@@ -13,7 +13,7 @@ make_slaves() {
     hex state.bin 11021000010000000000
     hex latched.bin 11021000010000000900
     hex disabled.bin 11001000000000000000
-    hex in-step.bin 11031000010103050000 # last MN 3
+    hex in-step.bin 11031000010103050000 # last MN 3, RSN 5
     cp sheet.bin ./-sheet.bin
     hex short.bin 110210
     hex memory.bin 0A0BAABB0E0F1011
@@ -29,7 +29,8 @@ make_traces() {
     hex first.bin "22 1D004000002101000210000000000000 1D0044000021010002100000AABB0000"
     hex again.bin "22 1D008000002101000210000000000000 1D0044000021010002100000AABB0000" # the first reply once more
     hex refused.bin "22 1D000000002103000210000000000000 1D0005090000000000000000AABB0000" # 6 octets are too many
-    hex lost.bin "22 1D030000002101000210000000000000 1D0005C00000000000000000AABB0000"    # MN 3 again
+    hex lost.bin "22 1D530000002101000210000000000000 1D0005C00000000000000000AABB0000"    # MN 3 again
+    hex unread.bin "22 1D740000002101000210000000000000 1D6404000021010002100000AABB0000"  # SN 7, and the drive took it
     hex kind.bin 77
     hex other-l.bin 21
     cat read.bin write.bin >agree.bin

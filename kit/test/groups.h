@@ -7,6 +7,13 @@
 void header_constants(void);
 void header_words(void);
 void octets_commands(void);
+void watchdog_cases(void);
+void watchdog_every_wdt(void);
+void watchdog_not_asked(void);
+void master_next_wdt(void);
+void master_in_step(void);
+void master_repeats_sn(void);
+void words_watchdog(void);
 void words_faults(void);
 void words_limits(void);
 void words_of_others(void);

@@ -33,7 +33,7 @@ static const struct exchanged {
       { 0x11, 3, 16, 1, 2, 0, 0, 0, 0, 0 }, { 0x0A, 0x0B }, 0 },
     { "DISCONNECT, from link 3",
       { 0x11, 3, 16, 1, 2, 1, 15, 4, 0, 0 },
-      { 0x0F, 0 }, { 0x0F, 0, 4, 0 },
+      { 0x0F, 0x40 }, { 0x0F, 0, 4, 0 },
       { 0x11, 1, 16, 0, 0, 0, 0, 0, 0, 0 }, { 0x0A, 0x0B }, 0 },
     { "ALM_CLR, both latches set",
       { 0x11, 2, 16, 0, 1, 0, 0, 0, 9, 12 },

@@ -27,6 +27,11 @@ CONNECT    0E000400300001000000000000000000
 MEM_RD     1D000400002101000010000000000000
 MEM_WR     1E0004000021010000100000B4000000
 DISCONNECT 0F000400000000000000000000000000
+CONNECT    0E010400300201000000000000000000
+MEM_RD     1D1204000021010000100000B4000000
+MEM_RD     1D2304000021010000100000B4000000
+MEM_RD     1D3404000021010000100000B4000000
+DISCONNECT 0F000400000000000000000000000000
 END
 }
 
@@ -68,7 +73,24 @@ test_oven() {
     refused_with unmapped.bin "MEM_WR refused: alarm 9 at octet 8, address: an octet from it on is in no region"
     refused_with readonly.bin "MEM_WR refused: alarm 10: octet 0 of the span, at address 00001000, lacks the right to be written out of step"
     refused_with second.bin "MEM_WR refused: alarm 10: octet 1 of the span, at address 00001001, lacks the right to be written out of step"
+    test_lost_cycles
     test_pkg_config
+}
+
+# deaf NAME EDIT WORDS: a host with this edit in its WDT is told why its cycle was lost.
+deaf() {
+    sed "s/t24_next_wdt(host->reply)/$2/" "$dist/example/oven.c" >"$work/deaf.c"
+    ! cmp -s "$dist/example/oven.c" "$work/deaf.c" || fail "no edit: $1"
+    $HAND -static "$work/deaf.c" $HAND_LIB -o "$work/deaf"
+    must_fail "$1" "$3" hand "$work/deaf" "$work/p.bin"
+}
+
+# The second command behind CONNECT in step is the first that the watchdog asks.
+test_lost_cycles() {
+    deaf "a master that does not count" 0x10 \
+        "^MEM_RD not executed, a cycle was lost: MN 1 expected, 0 seen; SN 1 expected, 1 seen$"
+    deaf "a master that does not read the replies" "t24_next_wdt(host->reply) \& 0x0F" \
+        "^MEM_RD not executed, a cycle was lost: MN 3 expected, 3 seen; SN 1 expected, 0 seen$"
 }
 
 test_pkg_config() {

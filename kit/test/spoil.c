@@ -142,14 +142,35 @@ static uint64_t spoil_place(uint64_t answer, const uint8_t *reply,
     return answer;
 }
 
+/* The watchdog asks too little, or too early: tells the command as it is seen. */
+static const uint8_t *spoil_watchdog(uint8_t *state, size_t state_len,
+                                     const uint8_t *command, size_t command_len)
+{
+    static uint8_t seen[T24_L_MAX];
+
+    if (state_len != T24_STATE_LEN || state[T24_AT_LINK] != T24_LINK_SYNC
+        || command_len < T24_L8 || command_len > T24_L_MAX)
+        return command;
+    memcpy(seen, command, command_len);
+    if (spoil(28) && t24_watchdog_asks(state)) /* SN is not asked */
+        seen[T24_COMMAND_AT_WDT] =
+            (uint8_t)(16 * t24_expected_sn(state) + t24_mn(command));
+    if (spoil(29) && !t24_watchdog_asks(state) && t24_sn(command) != 0) {
+        state[T24_AT_MN_KNOWN] = 1; /* SN is asked, though MN is not known */
+        state[T24_AT_LAST_MN] = (uint8_t)t24_mn(command);
+    }
+    return spoil(28) ? seen : command;
+}
+
 uint64_t __wrap_t24_exchange(const uint8_t *sheet, size_t sheet_len,
                              uint8_t *state, size_t state_len,
                              uint8_t *memory, size_t memory_len,
                              const uint8_t *command, size_t command_len,
                              uint8_t *reply, size_t reply_len)
 {
+    const uint8_t *seen = spoil_watchdog(state, state_len, command, command_len);
     uint64_t answer = __real_t24_exchange(sheet, sheet_len, state, state_len,
-                                          memory, memory_len, command,
+                                          memory, memory_len, seen,
                                           command_len, reply, reply_len);
 
     if (spoil_order(memory_len, command_len, reply_len, answer))

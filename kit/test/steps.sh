@@ -6,7 +6,7 @@ CHECKED="valgrind -q --error-exitcode=9"
 
 test_contents() {
     say "contents"
-    for file in include/type24.h include/type24_octets.h include/type24_words.h \
+    for file in include/type24.h include/type24_octets.h include/type24_watchdog.h include/type24_words.h \
         include/type24_version.h x86_64/lib/libtype24.a x86_64/lib/pkgconfig/type24.pc \
         lib/libtype24.a lib/pkgconfig/type24.pc doc/LINKING.md doc/PROCESSORS.md \
         doc/INTEGRATOR.md doc/FITTER.md doc/ENGINEER.md doc/RULES.md doc/rules/calls.md \
@@ -102,7 +102,7 @@ test_that_tests_fail() {
     $HAND -static $SOURCES spoil.c $HAND_LIB $(wraps) -o "$work/spoiled"
     export SPOIL=0
     hand "$work/spoiled" stop >"$work/out" || fail "unspoiled, yet fails"
-    for number in 1 2 3 4 5 6 7 8 9 10 11 12 13 14 15 16 17 18 19 20 21 22 23 24 25 26 27; do
+    for number in 1 2 3 4 5 6 7 8 9 10 11 12 13 14 15 16 17 18 19 20 21 22 23 24 25 26 27 28 29; do
         SPOIL=$number
         must_fail "spoil $number" FAILED hand "$work/spoiled" stop
     done
@@ -143,6 +143,16 @@ test_that_words_fail() {
         's/return command->len >= T24_MEM_AT_DATA;/return 1;/'
     wrong_words "the right of the other link" type24_field_words.h \
         's/link == T24_LINK_ASYNC/link == T24_LINK_SYNC/'
+    wrong_words "a next MN that does not turn" type24_watchdog.h \
+        's/(rwdt + 1u) & 0x0Fu/rwdt + 1u/'
+    wrong_words "a next SN that is not RSN" type24_watchdog.h \
+        's/rsn = rwdt & 0xF0u/rsn = 0u/'
+    wrong_words "a lost cycle by SN not told" type24_watchdog.h \
+        's/|| t24_sn(command) != t24_expected_sn(state)/|| 0/'
+    wrong_words "a lost cycle told though MN is not known" type24_watchdog.h \
+        's/ && state\[T24_AT_MN_KNOWN\] != 0//'
+    wrong_words "the SN that was seen told as expected" type24_watchdog_words.h \
+        's/"; SN ", t24_expected_sn(state)/"; SN ", t24_sn(command)/'
     wrong_words "a refused memory without its length" type24_words.h \
         's/t24_put_decimal(text, memory_len);/t24_put_decimal(text, wanted);/'
 }

@@ -21,9 +21,10 @@ void words_status(void)
     status(5, 0x00, "accepted; a latch is set");
     status(5, 0x09, "alarm 9, a field of the command is wrong; a latch is set");
     status(5, 0xC9, "alarm 9, a field of the command is wrong; communication "
-           "latch 12, a cycle was lost: MN did not follow; a latch is set");
+           "latch 12, a cycle was lost: MN did not follow, or SN was not RSN; "
+           "a latch is set");
     status(5, 0xC0, "alarm 0, none; communication latch 12, a cycle was lost: "
-           "MN did not follow; a latch is set");
+           "MN did not follow, or SN was not RSN; a latch is set");
     status(5, 0x0C, "alarm 12, command not allowed in this link; a latch is set");
     status(0, 0x00, "accepted; bit 2 is 0, must be 1");
     status(6, 0x30, "alarm 0, none; communication latch 3, not an alarm of this "
@@ -33,7 +34,7 @@ void words_status(void)
     status(0xC5, 0x0A, "alarm 10, no right to part of the span; a latch is set; "
            "identity 3");
     status(0xC5, 0xC0, "alarm 0, none; communication latch 12, a cycle was lost: "
-           "MN did not follow; a latch is set; identity 3");
+           "MN did not follow, or SN was not RSN; a latch is set; identity 3");
     status(0xE0, 0x00, "accepted; identity 3; bit 2 is 0, must be 1; "
            "bits 1 and 3 to 5 are not 0");
     check(strcmp(t24_communication_words(0), "none") == 0, "no latch");

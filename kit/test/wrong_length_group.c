@@ -166,8 +166,9 @@ void wrong_at_every_l(void)
     }
 }
 
-/* Link 3, last MN 3, and MN 3 once more: not executed, whatever is wrong. */
-static void lost(unsigned code, const uint8_t *fields)
+/* Link 3, last MN 3, RSN 5, and another WDT than 54 hex: not executed, whatever
+ * is wrong. */
+static void lost(unsigned code, const uint8_t *fields, unsigned wdt)
 {
     static const uint8_t before[] = { 0x11, 3, 0, 0, 1, 1, 3, 5, 0, 0 };
     static const uint8_t after[] = { 0x11, 2, 0, 0, 1, 0, 0, 0, 0, 12 };
@@ -177,7 +178,7 @@ static void lost(unsigned code, const uint8_t *fields)
     memcpy(wanted(STATE), after, sizeof after);
     given(STATE)[T24_AT_L] = wanted(STATE)[T24_AT_L] = (uint8_t)l;
     give_command(code, fields);
-    given(COMMAND)[1] = wanted(COMMAND)[1] = 3;
+    given(COMMAND)[1] = wanted(COMMAND)[1] = (uint8_t)wdt;
     wanted(REPLY)[2] = 5;
     wanted(REPLY)[3] = 0xC0;
     expect(ASK_EXCHANGE, T24_DONE);
@@ -196,7 +197,8 @@ void wrong_without_place(void)
     for (i = 0; i < sizeof all_l; i++) {
         l = all_l[i];
         for (code = 0; code < 256; code++) {
-            lost(code, wrong);
+            lost(code, wrong, 0x53);
+            lost(code, wrong, 0x44);
             if (memchr(known, (int)code, sizeof known) == NULL) {
                 refused(T24_LINK_DISCONNECTED, code, wrong, 8, 0);
                 refused(T24_LINK_ASYNC, code, wrong, 8, 0);
