@@ -61,4 +61,17 @@ test_bodies() {
     # shellcheck disable=SC2016 # the inner shell's words
     expect "replayer on a body of a refused command" 1 "octet 12: the body of a refused or not executed command is zero" "" \
         sh -c '"$@" >told; ended=$?; grep "^octet" told; exit $ended' sh "$replayer" sheet.bin state.bin memory.bin body.bin
+    test_lost_cycle
+}
+
+# In step with last MN 3 and RSN 5 a NOP with MN 4 and SN 7 is not executed.
+test_lost_cycle() {
+    printf '\021\003\020\000\001\001\003\005\000\000' >"$work/room/in-step.bin"
+    echo 22 00740000000000000000000000000000 00000000000000000000000000000000 >"$work/room/lines"
+    input=$work/room/lines
+    expect "a trace with another SN" 0 "" "" "$work/dist/bin/t24-hex" to unread.bin
+    input=/dev/null
+    # shellcheck disable=SC2016 # the inner shell's words
+    expect "replayer on a lost cycle" 1 "ours failed the watchdog: MN 4 expected, 4 seen; SN 5 expected, 7 seen" "" \
+        sh -c '"$@" >told; ended=$?; grep "^ours failed" told; exit $ended' sh "$replayer" sheet.bin in-step.bin memory.bin unread.bin
 }
