@@ -16,13 +16,13 @@ use Rattle.demands.proofs.Lacking.{first-without-the-right}
 use Rattle.demands.proofs.LawBench.{bench-by-law}
 use Rattle.demands.proofs.OnTheWire.{refused-on-the-wire}
 use Rattle.demands.proofs.Owned.{writes-own-octets}
-use Rattle.demands.proofs.Places.{first-failed-is-told, octets-of-the-fields, no-field-was-wrong, places-are-the-same}
+use Rattle.demands.proofs.Places.{first-failed-is-told, unknown-code-is-told, octets-of-the-fields, no-field-was-wrong, places-are-the-same}
 use Rattle.demands.proofs.Playing.{replay-plays, records-are-answered, secrets-in-whole-replay, refused-replay-writes-nothing}
 use Rattle.demands.proofs.Reached.{secrets-in-replay, only-agreeing-reach}
 use Rattle.demands.proofs.Runs.{refused-changes-nothing, states-stay-valid, memory-keeps-its-length, demand-3}
 use Rattle.demands.proofs.Shut.{refuses-all-is-shut-out, single-reply-is-shut-out, stores-nothing-is-shut-out, echoes-afterwards-is-shut-out, invents-rsn-is-shut-out}
 use Rattle.demands.proofs.Unique.{one-answers}
-use Rattle.demands.proofs.Watchdog.{same-sn-fails, master-never-fails}
+use Rattle.demands.proofs.Watchdog.{both-are-asked, same-sn-fails, master-never-fails}
 
 pub first-demand : FirstDemand
 first-demand = record {
@@ -66,6 +66,7 @@ request-1 = record { the-identity-comes-back = identity-comes-back; control-is-i
 pub request-3 : Request3
 request-3 = record {
   the-first-that-fails-is-told = first-failed-is-told;
+  an-unknown-code-is-told = unknown-code-is-told;
   the-octets-of-the-fields = octets-of-the-fields;
   no-field-was-wrong = no-field-was-wrong;
   the-first-without-the-right = first-without-the-right;
@@ -73,7 +74,7 @@ request-3 = record {
 }
 
 pub request-5 : Request5
-request-5 = record { the-same-sn-twice-fails = same-sn-fails; a-master-that-reads-never-fails = master-never-fails }
+request-5 = record { both-are-asked = both-are-asked; the-same-sn-twice-fails = same-sn-fails; a-master-that-reads-never-fails = master-never-fails }
 
 pub request-6 : Request6
 request-6 = record {

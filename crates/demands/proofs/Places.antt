@@ -19,11 +19,11 @@ use Rattle.slave.specs.Exchange.{Left, exchangeOf}
 use Rattle.demands.specs.Accepted.{accepted}
 use Rattle.demands.specs.Answered.{Answered, alarmIn}
 use Rattle.demands.specs.Hidden.{Seen, seen}
-use Rattle.demands.specs.Places.{placeIn, Holds, Decided, FirstFailedIsTold, OctetsOfTheFields, NoFieldWasWrong, PlacesAreTheSame}
+use Rattle.demands.specs.Places.{placeIn, Holds, Decided, allChecks, FirstFailedIsTold, UnknownCodeIsTold, OctetsOfTheFields, NoFieldWasWrong, PlacesAreTheSame}
 use Rattle.demands.specs.Sequences.{runOf}
 use Rattle.demands.proofs.Done.{least-length, answered-done, seen-alarm}
 use Rattle.demands.proofs.Exact.{acceptance-is-exact}
-use Rattle.demands.proofs.Fates.{both, namedChecks, namedRows, check-named, doneRow, fate-by, fate-kept}
+use Rattle.demands.proofs.Fates.{both, namedChecks, namedRows, check-named, doneRow, fate-by, fate-missed, fate-kept}
 use Rattle.demands.proofs.Runs.{demand-3}
 
 pub octets-of-the-fields : OctetsOfTheFields
@@ -124,33 +124,44 @@ module _ (h : Sheet) (sheet s m c r : List ℕ) (a : Answered h sheet s m c r) w
     accepts : row .alarm ≡ 0 → accepted h s m c ≡ true
     accepts z = ap (λ (b : Bool). not b && eqb (row .alarm) 0) go ∙ eq-eqb (row .alarm) 0 z
 
-    -- a row that judges the command, where the link allows it
-    decides : (q : Row) → namedChecks (q .checks) ≡ true → row ≡ byRow s (code c) q → oneOf (link s) (q .links) ≡ true → Decided s (q .checks) x
-    unfolding checked refused
-    decides q named e ok =
-        let own : row ≡ checked s (q .checks) q = e ∙ when-yes _ _ ok in
+    -- a row that judges the command
+    decides : (q : Row) → namedChecks (q .checks) ≡ true → row ≡ byRow s (code c) q → Decided s (allChecks s q) x
+    unfolding refused
+    decides q named own =
         let exact = acceptance-is-exact h sheet s m c r a in
         record {
           executed-exactly = (
-            λ all. exact .0 (accepts (ap (λ (f : Fate). f .alarm) (own ∙ all-done s (q .checks) q all))),
-            λ done. no-alarm-holds s (q .checks) q named
+            λ all. exact .0 (accepts (ap (λ (f : Fate). f .alarm) (own ∙ all-done s (allChecks s q) q all))),
+            λ done. no-alarm-holds s (allChecks s q) q named
                 (sym (ap (λ (f : Fate). f .alarm) (fate-is ∙ own)) ∙ sym alarm-is ∙ done .no-alarm),
           );
-          no-place = λ all. place-is ∙ ap (λ (f : Fate). f .place) (fate-is ∙ own ∙ all-done s (q .checks) q all);
+          no-place = λ all. place-is ∙ ap (λ (f : Fate). f .place) (fate-is ∙ own ∙ all-done s (allChecks s q) q all);
           first-that-fails = λ before k after split all f.
               let to = fate-is ∙ own ∙ ap (λ (ks : List Check). checked s ks q) split ∙ first-refuses s q before k after all f in
               (alarm-is ∙ ap (λ (g : Fate). g .alarm) to, place-is ∙ ap (λ (g : Fate). g .place) to);
         }
 
     each : (rs : List Row) → namedRows rs ≡ true → Every (λ (q : Row). code c ≡ q .code → row ≡ byRow s (code c) q) rs
-        → Every (λ (q : Row). code c ≡ q .code → oneOf (link s) (q .links) ≡ true → Decided s (q .checks) x) rs
+        → Every (λ (q : Row). code c ≡ q .code → Decided s (allChecks s q) x) rs
     each [] named all = tt
     each (q ∷ qs) named all =
         let p = both _ _ named in
-        (λ e ok. decides q (p .0) (all .0 e) ok, each qs (p .1) (all .1))
+        (λ e. decides q (p .0) (all .0 e), each qs (p .1) (all .1))
 
 pub first-failed-is-told : FirstFailedIsTold
 first-failed-is-told h sheet s m c r a go = each h sheet s m c r a go (table h s m c) refl (row-of s (code c) (table h s m c) refl)
+
+-- a code that no row has
+none-judges : (s : List ℕ) (k : ℕ) (rs : List Row) → Every (λ (r : Row). k ≡ r .code → ⊥) rs → judged s k rs ≡ refused s 8 0
+unfolding judged
+none-judges s k [] all = refl
+none-judges s k (r ∷ rs) all = when-no _ _ (ne-eqb k (r .code) (all .0)) ∙ none-judges s k rs (all .1)
+
+pub unknown-code-is-told : UnknownCodeIsTold
+unfolding refused
+unknown-code-is-told h sheet s m c r a go none =
+    let e = fate-kept h s m c go ∙ none-judges s (code c) (table h s m c) none in
+    (alarm-is h sheet s m c r a ∙ ap (λ (f : Fate). f .alarm) e, place-is h sheet s m c r a ∙ ap (λ (f : Fate). f .place) e)
 
 -- a fate that names no field has place 0
 no-field : (h : Sheet) (s m c : List ℕ) → oneOf (fateOf h s m c .alarm) (0 ∷ 8 ∷ 12 ∷ []) ≡ true → fateOf h s m c .place ≡ 0
@@ -164,8 +175,12 @@ no-field h s m c =
     z a b e = refl
 
 pub no-field-was-wrong : NoFieldWasWrong
-no-field-was-wrong h sheet s m c r a e =
-    place-is h sheet s m c r a ∙ no-field h s m c (sym (ap (λ (n : ℕ). oneOf n (0 ∷ 8 ∷ 12 ∷ [])) (alarm-is h sheet s m c r a)) ∙ e)
+no-field-was-wrong h sheet s m c r a = record {
+  by-alarm = λ e. place-is h sheet s m c r a ∙ no-field h s m c (sym (ap (λ (n : ℕ). oneOf n (0 ∷ 8 ∷ 12 ∷ [])) (alarm-is h sheet s m c r a)) ∙ e);
+  by-watchdog = λ e.
+      let lost-is = fate-missed h s m c e in
+      (alarm-is h sheet s m c r a ∙ ap (λ (f : Fate). f .alarm) lost-is, place-is h sheet s m c r a ∙ ap (λ (f : Fate). f .place) lost-is);
+}
 
 pub places-are-the-same : PlacesAreTheSame
 places-are-the-same h w s m₁ m₂ d calls =

@@ -21,10 +21,10 @@ use Rattle.law.proofs.Clauses.{valid-true}
 use Rattle.law.proofs.Laid.{when-yes, over-at, over-length}
 use Rattle.slave.specs.Exchange.{Left, exchangeOf}
 use Rattle.demands.specs.Answered.{Answered}
-use Rattle.demands.specs.Watchdog.{Watched, Fails, SameSnFails, Sent, rwdt, Stays, Master, InStep, MasterNeverFails}
+use Rattle.demands.specs.Watchdog.{Asks, Fails, BothAreAsked, SameSnFails, Exchanged, rwdt, Stays, Master, InStep, MasterNeverFails}
 use Rattle.demands.proofs.Done.{least-length, answered-done, seen-link, seen-rwdt}
 use Rattle.demands.proofs.Exact.{link-is, lost-link}
-use Rattle.demands.proofs.Fates.{named, judged-in, latch-stays, fate-missed, fate-kept}
+use Rattle.demands.proofs.Fates.{named, judged-in, latch-stays, row-stays, fate-missed, fate-kept}
 
 -- the watchdog's fields behind an exchange that begins and ends in link 3
 module _ (s : List ℕ) (sent : ℕ) (changes : List Piece) (ten : length s ≡ 10) (three : link s ≡ 3) (still : link (over changes s) ≡ 3) where
@@ -74,11 +74,11 @@ back true e = refl
 back false e = sym e
 
 -- where it does not fail and MN is known, MN follows and SN is RSN
-asked : (s c : List ℕ) → Watched s → missed s c ≡ false → (mn c ≡ (lastMn s + 1) % 16) × (sn c ≡ rsn s)
+asked : (s c : List ℕ) → Asks s → missed s c ≡ false → (mn c ≡ (lastMn s + 1) % 16) × (sn c ≡ rsn s)
 asked s c w e =
     let b = eqb (mn c) ((lastMn s + 1) % 16) in
     let d = eqb (sn c) (rsn s) in
-    let left : missed s c ≡ not (b && d) = ap₂ (λ (x y : Bool). x && (y && not (b && d))) (eq-eqb (link s) 3 (w .in-step)) (eq-eqb (mnKnown s) 1 (w .known)) in
+    let left : missed s c ≡ not (b && d) = ap₂ (λ (x y : Bool). x && (y && not (b && d))) (eq-eqb (link s) 3 (w .synchronous)) (eq-eqb (mnKnown s) 1 (w .known)) in
     let p = and-eq-true-iff b d .0 (back (b && d) (sym left ∙ e)) in
     (eqb-true (mn c) ((lastMn s + 1) % 16) (p .0), eqb-true (sn c) (rsn s) (p .1))
 
@@ -137,24 +137,9 @@ module _ (h : Sheet) (sheet s m c r : List ℕ) (a : Answered h sheet s m c r) w
   rsn-next : link s ≡ 3 → link (x .state) ≡ 3 → rsn (x .state) ≡ (rsn s + 1) % 16
   rsn-next three still = ap rsn state-is ∙ rsn-after s (mn c) changes ten three (sym link-over ∙ still)
 
-pub same-sn-fails : SameSnFails
-same-sn-fails h sheet s m c₁ r₁ c₂ r₂ a₁ w₁ a₂ w₂ e =
-    let t = exchangeOf sheet s m c₁ r₁ .state in
-    ⊎-elim (λ (q : missed s c₁ ≡ true). inl (falls h sheet s m c₁ r₁ a₁ q))
-    (λ (q : missed s c₁ ≡ false).
-    ⊎-elim (λ (p : missed t c₂ ≡ true). inr (falls h sheet t (exchangeOf sheet s m c₁ r₁ .memory) c₂ r₂ a₂ p))
-    (λ (p : missed t c₂ ≡ false).
-    let k₁ = asked s c₁ w₁ q .1 in
-    let k₂ = asked t c₂ w₂ p .1 in
-    let n = rsn-next h sheet s m c₁ r₁ a₁ (w₁ .in-step) (w₂ .in-step) in
-    let same : rsn s ≡ (rsn s + 1) % 16 = sym k₁ ∙ e ∙ k₂ ∙ n in
-    absurd (let w : ⊥ = omega (arith, same) in w))
-    (decided (missed t c₂)))
-    (decided (missed s c₁))
-
 -- the state behind a command and its reply, as a master that read the reply knows it
 record Behind (state last reply : List ℕ) : Type 0 where
-  pub watched : Watched state
+  pub watched : Asks state
   pub last-mn : lastMn state ≡ mn last
   pub its-rsn : rsn state ≡ rwdt reply / 16
 
@@ -173,22 +158,60 @@ passed h sheet s m c r a three go stays =
     ap (λ (l : Left). rwdt (l .reply)) (answered-done h sheet s m c r a) ∙ seen-rwdt h s m c (long h sheet s m c r a) ∙ when-yes _ _ (eq-eqb (link t) 3 link-three) in
     let n = ten h sheet s m c r a in
     record {
-      watched = record { in-step = ap link is ∙ link-three; known = ap mnKnown is ∙ known-after s (mn c) ch n three still };
+      watched = record { synchronous = ap link is ∙ link-three; known = ap mnKnown is ∙ known-after s (mn c) ch n three still };
       last-mn = ap lastMn is ∙ last-after s (mn c) ch n three still;
       its-rsn = ap rsn is ∙ (let e : rsn t ≡ (16 * rsn t + mn c) / 16 = omega arith in e) ∙ sym (ap (λ (k : ℕ). k / 16) told);
     }
 
-goes-on : (h : Sheet) (sheet s m last reply : List ℕ) (ds : List Sent) → Behind s last reply → Master h sheet s m last reply ds → InStep sheet s m ds
+-- what falls from 3 to 2 has failed check 1
+missed-it : (h : Sheet) (sheet s m c r : List ℕ) → Answered h sheet s m c r → Fails s (exchangeOf sheet s m c r) → missed s c ≡ true
+missed-it h sheet s m c r a f =
+    ⊎-elim (λ (q : missed s c ≡ true). q)
+    (λ (q : missed s c ≡ false). absurd (row-stays h s m c (f .was) (sym (link-is h sheet s m c r a _ (fate-kept h s m c q)) ∙ f .falls)))
+    (decided (missed s c))
+
+never : {A : Type 0} → _≡_ {A = Bool} true false → A
+never e = absurd (let z : _≡_ {A = ℕ} 0 1 = cc in let v : ⊥ = omega arith in v)
+
+pub both-are-asked : BothAreAsked
+both-are-asked = record {
+  failure-of-either = λ h sheet s m c r a w. (
+    λ f both.
+        let holds = ap₂ _&&_ (eq-eqb (mn c) ((lastMn s + 1) % 16) (both .0)) (eq-eqb (sn c) (rsn s) (both .1)) in
+        never (sym (missed-it h sheet s m c r a f) ∙ passes (eqb (link s) 3) (eqb (mnKnown s) 1) holds),
+    λ either. ⊎-elim (λ (q : missed s c ≡ true). falls h sheet s m c r a q)
+        (λ (q : missed s c ≡ false). absurd (either (asked s c w q))) (decided (missed s c)),
+  );
+  not-known = λ h sheet s m c r a unknown f.
+      never (sym (missed-it h sheet s m c r a f) ∙ unasked (eqb (link s) 3) _ (ap (λ (n : ℕ). eqb n 1) unknown));
+}
+
+pub same-sn-fails : SameSnFails
+same-sn-fails h sheet s m c₁ r₁ c₂ r₂ a₁ w stays a₂ e =
+    let t = exchangeOf sheet s m c₁ r₁ .state in
+    ⊎-elim (λ (q : missed s c₁ ≡ true). inl (falls h sheet s m c₁ r₁ a₁ q))
+    (λ (q : missed s c₁ ≡ false).
+    let next = passed h sheet s m c₁ r₁ a₁ (w .synchronous) q stays in
+    ⊎-elim (λ (p : missed t c₂ ≡ true). inr (falls h sheet t (exchangeOf sheet s m c₁ r₁ .memory) c₂ r₂ a₂ p))
+    (λ (p : missed t c₂ ≡ false).
+    let k₁ = asked s c₁ w q .1 in
+    let k₂ = asked t c₂ (next .watched) p .1 in
+    let n = rsn-next h sheet s m c₁ r₁ a₁ (w .synchronous) (next .watched .synchronous) in
+    let same : rsn s ≡ (rsn s + 1) % 16 = sym k₁ ∙ e ∙ k₂ ∙ n in
+    absurd (let w : ⊥ = omega (arith, same) in w))
+    (decided (missed t c₂)))
+    (decided (missed s c₁))
+
+goes-on : (h : Sheet) (sheet s m last reply : List ℕ) (ds : List Exchanged) → Behind s last reply → Master h sheet s m last reply ds → InStep sheet s m ds
 goes-on h sheet s m last reply [] k all = tt
 goes-on h sheet s m last reply (d ∷ ds) k (a, f, stays, rest) =
     let c = d .command in
     let follows = eq-eqb (mn c) ((lastMn s + 1) % 16) (f .counts-on ∙ ap (λ (n : ℕ). (n + 1) % 16) (sym (k .last-mn))) in
     let copies = eq-eqb (sn c) (rsn s) (f .gives-back ∙ sym (k .its-rsn)) in
-    let next = passed h sheet s m c (d .room) a (k .watched .in-step) (passes (eqb (link s) 3) (eqb (mnKnown s) 1) (ap₂ _&&_ follows copies)) stays in
-    (next .watched .in-step, goes-on h sheet _ _ c _ ds next rest)
+    let next = passed h sheet s m c (d .lent) a (k .watched .synchronous) (passes (eqb (link s) 3) (eqb (mnKnown s) 1) (ap₂ _&&_ follows copies)) stays in
+    (next .watched .synchronous, goes-on h sheet _ _ c _ ds next rest)
 
 pub master-never-fails : MasterNeverFails
-master-never-fails h sheet s m c r a three unknown stays ds all =
-    let go : missed s c ≡ false = unasked (eqb (link s) 3) _ (ap (λ (n : ℕ). eqb n 1) unknown) in
+master-never-fails h sheet s m c r a three go stays ds all =
     let first = passed h sheet s m c r a three go stays in
-    (first .watched .in-step, goes-on h sheet _ _ c _ ds first all)
+    (first .watched .synchronous, goes-on h sheet _ _ c _ ds first all)

@@ -20,12 +20,12 @@ use Rattle.demands.specs.Idle.{Demand2, KeepsSecrets, AgreesWhereReached
 use Rattle.demands.specs.LawBench.{BenchByLaw}
 use Rattle.demands.specs.Mapped.{ParametersAreMapped, MappedIsNotAsked}
 use Rattle.demands.specs.OnTheWire.{RefusedOnTheWire}
-use Rattle.demands.specs.Places.{FirstFailedIsTold, OctetsOfTheFields, NoFieldWasWrong, FirstWithoutTheRight, PlacesAreTheSame}
+use Rattle.demands.specs.Places.{FirstFailedIsTold, UnknownCodeIsTold, OctetsOfTheFields, NoFieldWasWrong, FirstWithoutTheRight, PlacesAreTheSame}
 use Rattle.demands.specs.Refused.{RefusedChangesNothing, StatesStayValid}
 use Rattle.demands.specs.Replays.{TracesHaveReplies, AgreesExactly, ReplayIsFold, CutInTwo, FormsJoin, ReplayCutInTwo, SecretsInReplay, OnlyAgreeingReach, ReplayPlays, RecordsAreAnswered, SecretsInWholeReplay, RefusedReplayWritesNothing}
 use Rattle.demands.specs.Sequences.{Call, runOf, History}
 use Rattle.demands.specs.Unique.{OneAnswers}
-use Rattle.demands.specs.Watchdog.{SameSnFails, MasterNeverFails}
+use Rattle.demands.specs.Watchdog.{BothAreAsked, SameSnFails, MasterNeverFails}
 use Rattle.demands.specs.Writes.{WritesOwnOctets, MemoryKeepsItsLength}
 
 -- "1. Each call answers on every input. .. A refused call gives its number and, for the sheet, the place; state, memory and reply then hold what they
@@ -84,6 +84,7 @@ pub record Request1 : Type 0 where
 pub record Request3 : Type 0 where
   -- "the first octet of the field that failed, in document 01's order": acceptance and place come from one list of checks
   pub the-first-that-fails-is-told : FirstFailedIsTold
+  pub an-unknown-code-is-told : UnknownCodeIsTold
   pub the-octets-of-the-fields : OctetsOfTheFields
   -- "Alarms 8 and 12 and a failed watchdog have place 0."
   pub no-field-was-wrong : NoFieldWasWrong
@@ -95,6 +96,8 @@ pub record Request3 : Type 0 where
 -- Document 02, request 5, "The watchdog is a two-way matter": "With MN known, link 3 shall require that MN follows and that SN equals the state's RSN. .. Demands
 -- 2 and 3 read with the new check." Demands 1 to 3 and the bench cases above are of the machine with it.
 pub record Request5 : Type 0 where
+  -- "Failure of either is check 1 as it stands"; with MN not known neither is asked
+  pub both-are-asked : BothAreAsked
   -- a master that has stopped reading our replies is noticed, whatever MN does
   pub the-same-sn-twice-fails : SameSnFails
   -- and one that reads them never fails check 1

@@ -9,7 +9,7 @@ use Rattle.law.specs.Words.{when, Every, Some, oneOf}
 use Rattle.law.specs.Sheet.{Sheet, WellFormed, sheetOctets}
 use Rattle.law.specs.State.{link}
 use Rattle.law.specs.Memory.{Cell, cells, readable, writable, has}
-use Rattle.law.specs.Table.{Check, Row, table, parameter, address, n}
+use Rattle.law.specs.Table.{Check, check, Row, table, parameter, address, n}
 use Rattle.law.specs.Exchange.{code, missed}
 use Rattle.slave.specs.Exchange.{Left, exchangeOf}
 use Rattle.demands.specs.Accepted.{Executed}
@@ -33,14 +33,25 @@ pub record Decided (state : List ℕ) (checks : List Check) (l : Left) : Type 0 
   pub first-that-fails : (before : List Check) (k : Check) (after : List Check) → checks ≡ before ++ k ∷ after → Every Holds before → k .holds ≡ false
       → (alarmIn (l .reply) ≡ k .alarm) × (placeIn l ≡ k .place)
 
--- so it is for the row of the command's code, where check 1 does not fail and the link allows the code
+-- check 3, that the link allows the code, and then the row's own
+abbrev pub allChecks : List ℕ → Row → List Check
+allChecks state r = check (oneOf (link state) (r .links)) 12 0 ∷ r .checks
+
+-- so it is for the row of the command's code, where check 1 does not fail
 abbrev pub FirstFailedIsTold : Type 0
 FirstFailedIsTold =
     (h : Sheet) (sheet state memory command reply : List ℕ) → Answered h sheet state memory command reply → missed state command ≡ false
-    → Every (λ (r : Row). code command ≡ r .code → oneOf (link state) (r .links) ≡ true
-    → Decided state (r .checks) (exchangeOf sheet state memory command reply)) (table h state memory command)
+    → Every (λ (r : Row). code command ≡ r .code → Decided state (allChecks state r) (exchangeOf sheet state memory command reply))
+    (table h state memory command)
 
--- the places of the checks with alarm 9, in their order
+-- and where no row has the code, it is unknown: alarm 8, and no place
+abbrev pub UnknownCodeIsTold : Type 0
+UnknownCodeIsTold =
+    (h : Sheet) (sheet state memory command reply : List ℕ) → Answered h sheet state memory command reply → missed state command ≡ false
+    → Every (λ (r : Row). code command ≡ r .code → ⊥) (table h state memory command)
+    → (let l = exchangeOf sheet state memory command reply in (alarmIn (l .reply) ≡ 8) × (placeIn l ≡ 0))
+
+-- the places of the checks with alarm 9, in their order; of each code
 abbrev pub dataPlaces : List Check → List ℕ
 dataPlaces [] = []
 dataPlaces (k ∷ ks) = when (eqb (k .alarm) 9) (k .place ∷ dataPlaces ks) (dataPlaces ks)
@@ -49,34 +60,37 @@ dataPlaces (k ∷ ks) = when (eqb (k .alarm) 9) (k .place ∷ dataPlaces ks) (da
 abbrev pub OctetsOfTheFields : Type 0
 OctetsOfTheFields =
     (h : Sheet) (state memory command : List ℕ)
-    → map (λ (r : Row). dataPlaces (r .checks)) (table h state memory command)
+    → map (λ (r : Row). r .code ∷ dataPlaces (r .checks)) (table h state memory command)
     -- NOP
-    ≡ []
+    ≡ (0x00 ∷ [])
     -- PRM_RD and PRM_WR: number, size, size
-    ∷ (4 ∷ 6 ∷ 6 ∷ [])
-    ∷ (4 ∷ 6 ∷ 6 ∷ [])
+    ∷ (0x01 ∷ 4 ∷ 6 ∷ 6 ∷ [])
+    ∷ (0x02 ∷ 4 ∷ 6 ∷ 6 ∷ [])
     -- ID_RD: code, size at least 1, offset + size, size at most
-    ∷ (4 ∷ 6 ∷ 6 ∷ 6 ∷ [])
+    ∷ (0x03 ∷ 4 ∷ 6 ∷ 6 ∷ 6 ∷ [])
     -- ALM_RD: L, octets 4 and 5; ALM_CLR: octets 4 and 5
-    ∷ (0 ∷ 4 ∷ [])
-    ∷ (4 ∷ [])
+    ∷ (0x05 ∷ 0 ∷ 4 ∷ [])
+    ∷ (0x06 ∷ 4 ∷ [])
     -- SYNC_SET
-    ∷ []
+    ∷ (0x0D ∷ [])
     -- CONNECT: version, com_mod, com_time, profile
-    ∷ (4 ∷ 5 ∷ 6 ∷ 7 ∷ [])
+    ∷ (0x0E ∷ 4 ∷ 5 ∷ 6 ∷ 7 ∷ [])
     -- DISCONNECT
-    ∷ []
+    ∷ (0x0F ∷ [])
     -- MEM_RD and MEM_WR: octet 5, count with its product, twice, address
-    ∷ (5 ∷ 6 ∷ 6 ∷ 8 ∷ [])
-    ∷ (5 ∷ 6 ∷ 6 ∷ 8 ∷ [])
+    ∷ (0x1D ∷ 5 ∷ 6 ∷ 6 ∷ 8 ∷ [])
+    ∷ (0x1E ∷ 5 ∷ 6 ∷ 6 ∷ 8 ∷ [])
     ∷ []
 
--- "Alarms 8 and 12 and a failed watchdog have place 0", and so has an accepted command; a failed watchdog has command alarm 0
+-- "Alarms 8 and 12 and a failed watchdog have place 0", and so has an accepted command, which has alarm 0 as a failed watchdog has
+pub record NoField (state command : List ℕ) (l : Left) : Type 0 where
+  pub by-alarm : oneOf (alarmIn (l .reply)) (0 ∷ 8 ∷ 12 ∷ []) ≡ true → placeIn l ≡ 0
+  pub by-watchdog : missed state command ≡ true → (alarmIn (l .reply) ≡ 0) × (placeIn l ≡ 0)
+
 abbrev pub NoFieldWasWrong : Type 0
 NoFieldWasWrong =
     (h : Sheet) (sheet state memory command reply : List ℕ) → Answered h sheet state memory command reply
-    → oneOf (alarmIn (exchangeOf sheet state memory command reply .reply)) (0 ∷ 8 ∷ 12 ∷ []) ≡ true
-    → placeIn (exchangeOf sheet state memory command reply) ≡ 0
+    → NoField state command (exchangeOf sheet state memory command reply)
 
 -- the span that a command of a code asks to be read or written, and the right that it asks
 pub record Asked : Type 0 where
@@ -97,7 +111,8 @@ askedSpans h s m c =
     ∷ asked 0x1E (writable (link s)) (address h s m c) (n h s m c)
     ∷ []
 
--- the octet at address + place lacks the right, and every one of the span before it has it
+-- the octet at address + place lacks the right, and every one of the span before it has it; what is in no region lacks every right, but a memory command
+-- whose span is not mapped is told so before, by alarm 9
 pub record FirstLacks (cs : List Cell) (q : Asked) (place : ℕ) : Type 0 where
   pub in-the-span : place < q .size
   pub lacks : has (q .right) cs (q .address + place) ≡ false

@@ -1,19 +1,20 @@
 -- Document 02, request 5: "A master that had stopped reading our replies kept counting MN, and our drive stayed in step with it. The high half SN of WDT is
 -- the master's copy of the RSN in our last reply."
 use Prim.Native.Nat.{ℕ, _+_, _/_, _%_}
+use mathlib.Core.Bool.{false}
 use mathlib.Core.List.{List, [], _∷_}
-use mathlib.Core.Logic.{_⊎_}
+use mathlib.Core.Logic.{_⊎_, _↔_}
 use mathlib.Core.Path.{_≡_}
 use lib.ListN.{getD}
 use Rattle.law.specs.Sheet.{Sheet}
-use Rattle.law.specs.State.{link, mnKnown}
-use Rattle.law.specs.Exchange.{code, mn, sn}
+use Rattle.law.specs.State.{link, mnKnown, lastMn, rsn}
+use Rattle.law.specs.Exchange.{code, mn, sn, missed}
 use Rattle.slave.specs.Exchange.{Left, exchangeOf}
 use Rattle.demands.specs.Answered.{Answered}
 
 -- the state in which check 1 asks: link 3, and MN is known
-pub record Watched (state : List ℕ) : Type 0 where
-  pub in-step : link state ≡ 3
+pub record Asks (state : List ℕ) : Type 0 where
+  pub synchronous : link state ≡ 3
   pub known : mnKnown state ≡ 1
 
 -- check 1 fails, by what a host sees: the link falls from 3 to 2, which no command that is judged makes it do
@@ -21,18 +22,35 @@ pub record Fails (state : List ℕ) (l : Left) : Type 0 where
   pub was : link state ≡ 3
   pub falls : link (l .state) ≡ 2
 
--- of two exchanges in a row with MN known that carry the same SN, check 1 fails in at least one, whatever MN does
+-- "MN follows", and "SN equals the state's RSN"
+abbrev pub BothHold : List ℕ → List ℕ → Type 0
+BothHold state command = (mn command ≡ (lastMn state + 1) % 16) × (sn command ≡ rsn state)
+
+-- "With MN known, link 3 shall require that MN follows and that SN equals the state's RSN. Failure of either is check 1 as it stands"; with MN not known
+-- neither is asked
+pub record BothAreAsked : Type 0 where
+  pub failure-of-either : (h : Sheet) (sheet state memory command reply : List ℕ) → Answered h sheet state memory command reply → Asks state
+      → Fails state (exchangeOf sheet state memory command reply) ↔ (BothHold state command → ⊥)
+  pub not-known : (h : Sheet) (sheet state memory command reply : List ℕ) → Answered h sheet state memory command reply → mnKnown state ≡ 0
+      → Fails state (exchangeOf sheet state memory command reply) → ⊥
+
+-- no command leaves link 3 but DISCONNECT
+abbrev pub Stays : List ℕ → Type 0
+Stays command = code command ≡ 0x0F → ⊥
+
+-- of two exchanges in a row with MN known that carry the same SN, check 1 fails in at least one, whatever MN does. Where the first does not fail, MN is
+-- known in the second too, unless it was to leave link 3
 abbrev pub SameSnFails : Type 0
 SameSnFails =
-    (h : Sheet) (sheet state memory c₁ r₁ c₂ r₂ : List ℕ) → Answered h sheet state memory c₁ r₁ → Watched state
+    (h : Sheet) (sheet state memory c₁ r₁ c₂ r₂ : List ℕ) → Answered h sheet state memory c₁ r₁ → Asks state → Stays c₁
     → (let x = exchangeOf sheet state memory c₁ r₁ in
-    Answered h sheet (x .state) (x .memory) c₂ r₂ → Watched (x .state) → sn c₁ ≡ sn c₂
+    Answered h sheet (x .state) (x .memory) c₂ r₂ → sn c₁ ≡ sn c₂
     → Fails state x ⊎ Fails (x .state) (exchangeOf sheet (x .state) (x .memory) c₂ r₂))
 
--- a command, and the room that is lent for its reply
-pub record Sent : Type 0 where
+-- a command, and the octets that are lent for its reply
+pub record Exchanged : Type 0 where
   pub command : List ℕ
-  pub room : List ℕ
+  pub lent : List ℕ
 
 -- "octet 1 RWDT", whose high half is RSN
 abbrev pub rwdt : List ℕ → ℕ
@@ -43,27 +61,25 @@ pub record Follows (last reply next : List ℕ) : Type 0 where
   pub counts-on : mn next ≡ (mn last + 1) % 16
   pub gives-back : sn next ≡ rwdt reply / 16
 
--- no command leaves link 3 but DISCONNECT
-abbrev pub Stays : List ℕ → Type 0
-Stays command = code command ≡ 0x0F → ⊥
-
--- exchanges of such a master, behind a command and its reply, none of which is to leave link 3
-abbrev pub Master : Sheet → List ℕ → List ℕ → List ℕ → List ℕ → List ℕ → List Sent → Type 0
+-- exchanges of such a master, behind a command and its reply, none of which is to leave link 3. Each builds a reply: what our machine leaves is valid and
+-- whole, as demand 1 says, so that asks no more than the lengths of what is lent
+abbrev pub Master : Sheet → List ℕ → List ℕ → List ℕ → List ℕ → List ℕ → List Exchanged → Type 0
 Master h sheet state memory last reply [] = Unit {0}
 Master h sheet state memory last reply (d ∷ ds) =
-    Answered h sheet state memory (d .command) (d .room) × Follows last reply (d .command) × Stays (d .command)
-    × (let x = exchangeOf sheet state memory (d .command) (d .room) in Master h sheet (x .state) (x .memory) (d .command) (x .reply) ds)
+    Answered h sheet state memory (d .command) (d .lent) × Follows last reply (d .command) × Stays (d .command)
+    × (let x = exchangeOf sheet state memory (d .command) (d .lent) in Master h sheet (x .state) (x .memory) (d .command) (x .reply) ds)
 
 -- each leaves link 3 as it was: check 1 fails in none
-abbrev pub InStep : List ℕ → List ℕ → List ℕ → List Sent → Type 0
+abbrev pub InStep : List ℕ → List ℕ → List ℕ → List Exchanged → Type 0
 InStep sheet state memory [] = Unit {0}
 InStep sheet state memory (d ∷ ds) =
-    let x = exchangeOf sheet state memory (d .command) (d .room) in
+    let x = exchangeOf sheet state memory (d .command) (d .lent) in
     (link (x .state) ≡ 3) × InStep sheet (x .state) (x .memory) ds
 
--- from the entry to link 3 on, where MN is not known and the first command may have any WDT, over any number of exchanges
+-- from a first command on that passes check 1, as any does where MN is not known, over any number of exchanges
 abbrev pub MasterNeverFails : Type 0
 MasterNeverFails =
-    (h : Sheet) (sheet state memory command reply : List ℕ) → Answered h sheet state memory command reply → link state ≡ 3 → mnKnown state ≡ 0 → Stays command
+    (h : Sheet) (sheet state memory command reply : List ℕ) → Answered h sheet state memory command reply → link state ≡ 3 → missed state command ≡ false
+    → Stays command
     → (let x = exchangeOf sheet state memory command reply in
-    (ds : List Sent) → Master h sheet (x .state) (x .memory) command (x .reply) ds → (link (x .state) ≡ 3) × InStep sheet (x .state) (x .memory) ds)
+    (ds : List Exchanged) → Master h sheet (x .state) (x .memory) command (x .reply) ds → (link (x .state) ≡ 3) × InStep sheet (x .state) (x .memory) ds)

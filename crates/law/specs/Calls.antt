@@ -44,7 +44,7 @@ enable h s =
     (result 0 0 (over (piece 1 (1 ∷ []) ∷ []) s) [] []))
 
 -- an exchange with none of the refusals below, whose command may still get an alarm: the fate of its command, done. Request 3: "The exchange's place, so
--- far 0 for a built reply, shall be the first octet of the field that failed"
+-- far 0 for a built reply, shall be the first octet of the field that failed"; Table says what it is for alarm 10, and where it is 0
 abbrev pub done : Sheet → List ℕ → List ℕ → List ℕ → Fate → Result
 done h s m c f =
     result 0 (f .place) (stateAfter s (mn c) (f .changes)) (stored (f .stores) (cells (h .regions)) m)
