@@ -80,15 +80,8 @@ module _ (h : Sheet) (sheet : List ℕ) (st : LinkState) (m c : List ℕ) where
     -- a refusal is about a field, and tells the place where frame says that it begins
     pub refusing : (a : ℕ) (field : Field) (place : ℕ) → Tells field place → J (Refused a field) (refused s a place)
     unfolding finished refused laid
-    refusing a field place at = record {
-      same = record {
-        alarm = refl;
-        place = at .told;
-        next = goes-latched (mn c) st facts on a;
-        body = λ k old. quiet-at sheet m c k old;
-        memory = quiet-keeps c m ∙ sym (stored-none (cells (h .regions)) m whole);
-      };
-    }
+    refusing a field place at =
+        record { same = record { alarm = refl; place = at .told; next = goes-latched (mn c) st facts on a; body = λ k old. quiet-at sheet m c k old; memory = quiet-keeps c m ∙ sym (stored-none (cells (h .regions)) m whole) } }
 
     -- a judgement known otherwise
     pub via : {j k : Judgement} {f : Fate} → j ≡ k → J k f → J j f
