@@ -1,4 +1,5 @@
 // Checks 2 to 5, command by command.
+use crate::codes::MEM_RD;
 use crate::codes::OUT_OF_RANGE;
 use crate::codes::OUT_OF_SUPPORT;
 use crate::codes::WRONG_PHASE;
@@ -77,7 +78,7 @@ pub fn item(sheet: &[u8], layout: Layout, st: LinkState, c: Command) -> Judgemen
         return Judgement::Refused(OUT_OF_RANGE, Field::Count);
     }
     Judgement::Accepted(
-        Effect::Identifies(i.at as u64 + c.offset as u64, c.count as u8),
+        Effect::Identifies(i.at as u32 + c.offset as u32, c.count as u8),
         st,
     )
 }
@@ -170,8 +171,7 @@ pub fn data_checks(sheet: &[u8], layout: Layout, st: LinkState, c: Command) -> J
         13 => Judgement::Accepted(Effect::Quiet, st.synced()),
         14 => crate::connecting::connect(layout, st, c),
         15 => Judgement::Accepted(Effect::Quiet, st.dropped()),
-        29 => memory(false, sheet, layout, st, c),
-        _ => memory(true, sheet, layout, st, c),
+        _ => memory(code != MEM_RD, sheet, layout, st, c),
     }
 }
 

@@ -26,7 +26,7 @@ fn right_of(writes: bool, link: u8) -> Right
 }
 
 // The octets at a place, read or written.
-fn moves(writes: bool, by: Carrier, place: u64, size: u8) -> Effect
+fn moves(writes: bool, by: Carrier, place: u32, size: u8) -> Effect
     ensures { λ r. ⌜ r ≡ moved writes by place size ⌝ }
 {
     if writes {

@@ -29,9 +29,9 @@ pub enum Carrier {
 // the two latches as they were, the connection's fields, or nothing.
 pub enum Effect {
     Quiet,
-    Reads(Carrier, u64, u8),
-    Writes(Carrier, u64, u8),
-    Identifies(u64, u8),
+    Reads(Carrier, u32, u8),
+    Writes(Carrier, u32, u8),
+    Identifies(u32, u8),
     Alarms(u8, u8),
     Connects,
 }

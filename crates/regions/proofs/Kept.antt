@@ -13,7 +13,7 @@ use native.Mathlib.Omega.{arith}
 use Rattle.octets.proofs.Cases.{lt-or-le}
 use Rattle.octets.proofs.Pick.{pick-lt, pick-ge, pick-le, pick-gt}
 use Rattle.regions.specs.Apart.{Apart}
-use Rattle.regions.specs.Passed.{deniesOf}
+use Rattle.regions.specs.Denies.{deniesOf}
 use Rattle.regions.specs.Region.{listed, givesOf}
 use Rattle.regions.specs.Search.{beforeOf}
 use Rattle.regions.specs.declared.Region.{Region}

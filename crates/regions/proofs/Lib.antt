@@ -4,7 +4,6 @@ pub mod Bounds
 pub mod Listed
 pub mod Turns
 pub mod Spans
-pub mod Passed
 pub mod Passing
 pub mod Kept
 pub mod Places

@@ -1,33 +1,26 @@
 -- The search of a span over regions that are ordered and apart: what stands behind it at an address and a region.
 --     passing-start    it begins before all regions
---     passing-first    or behind those that end at or before the span
 --     passing-jump     a region that has the octet and gives the right is passed to its end
 --     passing-on       a region that has the octet not is passed
 --     passing-ends     where it comes to the span's end, no octet lacks the right
 --     passing-lacks    where it stops before, as many octets come before as were passed
---     passing-later    where only regions are asked for, one that starts at or before the octet is passed to its end if that is later
 --     passing-gap      no region from one that starts behind the octet on has it
 --     passing-whole, passing-short   whether the span lies wholly in regions: where its end is reached, and where the octet has none
 use mathlib.Core.Bool.{true, false}
 use mathlib.Core.Logic.{⊎-elim}
-use mathlib.Core.Path.{_≡_, refl, sym, ap, subst, _∙_}
+use mathlib.Core.Path.{_≡_, sym, ap, subst, _∙_}
 use Prim.Native.Nat.{ℕ, _+_, _-_, _<_, _≤_}
 use native.Mathlib.Omega.{arith}
 use borrow.Author.Tests.{le-leb, lt-leb, eq-eqb, ne-eqb}
-use lib.Dec.{ltb, leb}
-use Rattle.octets.specs.Pick.{pick}
+use lib.Dec.{leb}
 use Rattle.octets.proofs.Cases.{lt-or-le, eq-or-ne}
-use Rattle.octets.proofs.Pick.{pick-lt, pick-ge}
 use Rattle.regions.specs.Apart.{Apart}
-use Rattle.regions.specs.Passed.{passedOf}
 use Rattle.regions.specs.Region.{listed, holdsOf, givesOf}
 use Rattle.regions.specs.Search.{grantsOf, beforeOf, spanHas}
 use Rattle.regions.specs.declared.Region.{Region}
 use Rattle.regions.specs.declared.Right.{Right}
-use Rattle.regions.specs.declared.Right.the-variants.{Mapped}
 use Rattle.regions.proofs.Apart.{apart-rises, apart-behind}
-use Rattle.regions.proofs.Bounds.{holds-bounds, bounds-hold, past-misses}
-use Rattle.regions.proofs.Passed.{passed-ends, passed-most}
+use Rattle.regions.proofs.Bounds.{holds-bounds, bounds-hold}
 use Rattle.regions.proofs.Spans.{before-all, before-at}
 use Rattle.regions.proofs.Turns.{grants-here, grants-past, grants-from, grants-none}
 
@@ -45,14 +38,6 @@ module _ (f : ℕ → Region) (n : ℕ) (w : Right) (a : ℕ) where
     within = omega arith;
     granted = λ x l u. absurd (let z : ⊥ = omega arith in z);
     decides = grants-from f n 0 (omega arith) w a (λ j l. absurd (let z : ⊥ = omega arith in z));
-  }
-
-  pub passing-first : Passing f n w a a (passedOf (listed f 0 n) a)
-  passing-first = record {
-    from = omega arith;
-    within = passed-most f a n;
-    granted = λ x l u. absurd (let z : ⊥ = omega arith in z);
-    decides = grants-from f n (passedOf (listed f 0 n) a) (passed-most f a n) w a (passed-ends f a n);
   }
 
   module _ (to i : ℕ) (p : Passing f n w a to i) where
@@ -122,13 +107,5 @@ module _ (f : ℕ → Region) (n : ℕ) (w : Right) (a : ℕ) where
           (lt-or-le to (a + size))
 
 module _ (f : ℕ → Region) (n : ℕ) (d : Apart 0 (listed f 0 n)) (a to i : ℕ) (h : i < n) (r : Region) (e : r ≡ f i) where
-  pub passing-later : Passing f n Mapped a to i → r .start ≤ to → Passing f n Mapped a (pick (ltb to (r .start + r .length)) (r .start + r .length) to) (i + 1)
-  unfolding givesOf
-  passing-later p l =
-      ⊎-elim
-      (λ (u : to < r .start + r .length). rw (pick-lt (r .start + r .length) to u) (passing-jump f n Mapped a to i p h r e d (bounds-hold r to l u) refl))
-      (λ (u : r .start + r .length ≤ to). rw (pick-ge (r .start + r .length) to u) (passing-on f n Mapped a to i p h r e (past-misses r to u)))
-      (lt-or-le to (r .start + r .length))
-
   pub passing-gap : (w : Right) → to < r .start → grantsOf (listed f i (n - i)) w to ≡ false
   passing-gap w l = grants-none f w to i (n - i) (apart-behind f n d i to h (subst (λ (q : Region). to < q .start) e l))

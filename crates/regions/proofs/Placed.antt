@@ -13,7 +13,7 @@ use native.Mathlib.Omega.{arith}
 use Rattle.octets.proofs.Cases.{lt-or-le}
 use Rattle.octets.proofs.Pick.{pick-eq, pick-ne}
 use Rattle.regions.specs.Apart.{Apart}
-use Rattle.regions.specs.Passed.{deniesOf}
+use Rattle.regions.specs.Denies.{deniesOf}
 use Rattle.regions.specs.Region.{listed}
 use Rattle.regions.specs.Search.{spotOf, placeIn, beforeOf, spanPlace, reachOf}
 use Rattle.regions.specs.declared.Region.{Region}
@@ -26,10 +26,11 @@ use Rattle.regions.proofs.Listed.{listed-whole}
 use Rattle.regions.proofs.Places.{Stands}
 use Rattle.regions.proofs.Turns.{spot-here, spot-past}
 
--- i regions are passed, which take `base` octets of memory, and the last ends at `end`; the first octet, at `a`, is behind it and the other regions decide, or
+-- i regions are passed, which take `base` octets of memory, no more than there are addresses before the end of the last, `end`; the first octet, at `a`, is behind it and the other regions decide, or
 -- before it and found, with no gap between the two
 pub record Placed (f : ℕ → Region) (n a at end base i : ℕ) : Type 0 where
   pub small : base ≤ 4294967296 * i
+  pub dense : base ≤ end
   pub rises : (j : ℕ) → i ≤ j → j < n → end ≤ f j .start
   pub met : a < at → a < end
   pub close : a < end → at ≤ end
@@ -40,6 +41,7 @@ module _ (f : ℕ → Region) (n a : ℕ) where
   pub placed-first : Placed f n a a 0 0 0
   placed-first = record {
     small = omega arith;
+    dense = omega arith;
     rises = λ j l u. omega arith;
     met = λ h. absurd (let z : ⊥ = omega arith in z);
     close = λ h. absurd (let z : ⊥ = omega arith in z);
@@ -51,6 +53,7 @@ module _ (f : ℕ → Region) (n a : ℕ) where
     pub placed-octet : at < end → Placed f n a (at + 1) end base i
     placed-octet h = record {
       small = k .small;
+      dense = k .dense;
       rises = k .rises;
       met = λ l. omega arith;
       close = λ l. omega arith;
@@ -82,6 +85,7 @@ module _ (f : ℕ → Region) (n a : ℕ) where
       pub placed-region : r .length < 4294967296 → Placed f n a at (r .start + r .length) (base + r .length) (i + 1)
       placed-region few = record {
         small = omega (arith, k .small);
+        dense = omega (arith, k .dense, starts);
         rises = λ j l u. subst (λ (q : Region). q .start + q .length ≤ f j .start) (sym e) (apart-rises f 0 n 0 d i j (omega arith) (omega arith) (omega arith));
         met = λ l. let m = k .met l in let s = starts in omega arith;
         close = λ l.

@@ -2,4 +2,4 @@
 pub mod Region
 pub mod Search
 pub mod Apart
-pub mod Passed
+pub mod Denies

@@ -2,39 +2,11 @@
 use crate::Region;
 use crate::Right;
 ghost use mathlib.Core.Path.{_≡_};
-ghost use lib.Dec.{ltb};
-ghost use Rattle.octets.specs.Pick.{pick};
 ghost use Rattle.regions.specs.Apart.{Laid};
-ghost use Rattle.regions.specs.Passed.{passedOf, deniesOf};
+ghost use Rattle.regions.specs.Denies.{deniesOf};
 ghost use Rattle.regions.specs.Region.{regionsOf};
 ghost use Rattle.regions.specs.Search.{reachOf, spanHas};
 ghost use Rattle.regions.specs.declared.Right.the-variants.{Mapped};
-
-// How many regions, from the first on, end at or before an address.
-fn passed(sheet: &[u8], regions: u8, address: u64) -> u8
-    requires { ⌜ Laid (now sheet) regions ⌝ }
-    ensures { λ r. ⌜ r ≡ passedOf (regionsOf (now (sheet .entry)) regions) address ⌝ }
-{
-    let mut i: u8 = 0;
-    while i < regions {
-        let region = crate::region_in(sheet, 4 + 10 * (i as usize));
-        if address < region.start as u64 + region.length as u64 {
-            return i;
-        }
-        i += 1;
-    }
-    i
-}
-
-// The later of two addresses.
-fn later(a: u64, b: u64) -> u64
-    ensures { λ r. ⌜ r ≡ pick (ltb a b) b a ⌝ }
-{
-    if a < b {
-        return b;
-    }
-    a
-}
 
 // Whether a span lies wholly in regions: once through them, as far as the span or they go on without a gap.
 pub fn covers(sheet: &[u8], regions: u8, address: u32, size: u8) -> bool
@@ -43,15 +15,18 @@ pub fn covers(sheet: &[u8], regions: u8, address: u32, size: u8) -> bool
 {
     let end = address as u64 + size as u64;
     let mut to = address as u64;
-    let mut i = passed(sheet, regions, to);
+    let mut i: u8 = 0;
     while i < regions {
         let region = crate::region_in(sheet, 4 + 10 * (i as usize));
-        if to < region.start as u64 {
-            break;
-        }
-        to = later(to, region.start as u64 + region.length as u64);
-        if end <= to {
-            break;
+        let behind = region.start as u64 + region.length as u64;
+        if to < behind {
+            if to < region.start as u64 {
+                break;
+            }
+            to = behind;
+            if end <= to {
+                break;
+            }
         }
         i += 1;
     }
@@ -75,7 +50,7 @@ fn denies(region: Region, right: Right, address: u64) -> bool
 // 0 where one lacks it.
 pub struct Reach {
     pub before: u8,
-    pub place: u64,
+    pub place: u32,
 }
 
 // How many octets of a span come before the first that lacks the right: octets outside, one at a time, regions inside, left by the label. Regions rise,
@@ -121,7 +96,7 @@ pub fn before(sheet: &[u8], regions: u8, right: Right, address: u32, size: u8) -
     }
     Reach {
         before: (at - first) as u8,
-        place: base + first - end,
+        place: (base + first - end) as u32,
     }
 }
 

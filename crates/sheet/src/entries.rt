@@ -2,7 +2,7 @@
 ghost use mathlib.Core.Path.{_≡_};
 ghost use Prim.Native.Nat.{_+_, _-_, _*_, _≤_};
 ghost use lib.ListN.{length};
-ghost use Rattle.sheet.specs.Entries.{parameterFrom, itemFrom, itemAt, parametersOf, itemsOf, soughtParameter, soughtItem};
+ghost use Rattle.sheet.specs.Entries.{parameterFrom, parameterAt, itemFrom, itemAt, parametersOf, itemsOf, soughtParameter, soughtItem};
 
 // What a parameter record says behind its kind octet.
 pub struct Parameter {
@@ -15,7 +15,7 @@ pub struct Parameter {
 pub struct Item {
     pub code: u8,
     pub length: u8,
-    pub at: u32,
+    pub at: u16,
 }
 
 pub enum SoughtParameter {
@@ -42,12 +42,13 @@ pub fn parameter_in(sheet: &[u8], at: usize) -> Parameter
 
 // The ID item record whose kind octet stands at `at`; octets past the end count as 0.
 pub fn item_from(sheet: &[u8], at: u16) -> Item
+    requires { ⌜ at + 3 ≤ 65535 ⌝ }
     ensures { λ r. ⌜ r ≡ itemFrom (now (sheet .entry)) at ⌝ }
 {
     Item {
         code: octets::octet(sheet, at as usize + 1),
         length: octets::octet(sheet, at as usize + 2),
-        at: at as u32 + 3,
+        at: at + 3,
     }
 }
 
@@ -61,19 +62,35 @@ pub fn item_at(sheet: &[u8], regions: u8, parameters: u8, k: u8) -> Item
     )
 }
 
-// The parameter of a number, in a sheet whose end cuts no parameter.
+// Parameter `j` of a sheet with `regions` regions, whose end does not cut it.
+fn parameter_at(sheet: &[u8], regions: u8, j: u8) -> Parameter
+    requires { ⌜ 10 * regions + 8 * j + 8 ≤ length (now sheet) - 4 ⌝ }
+    ensures { λ r. ⌜ r ≡ parameterAt (now (sheet .entry)) regions j ⌝ }
+{
+    parameter_in(sheet, 4 + 10 * (regions as usize) + 8 * (j as usize))
+}
+
+// The parameter of a number, in a sheet whose end cuts no parameter. The last one is asked behind the loop, so that there is one way out of the search:
+// with two, the compiler sets what a refusal carries at each record that it passes.
 pub fn find_parameter(sheet: &[u8], regions: u8, parameters: u8, number: u16) -> SoughtParameter
     requires { ⌜ 10 * regions + 8 * parameters ≤ length (now sheet) - 4 ⌝ }
     ensures { λ r. ⌜ r ≡ soughtParameter (parametersOf (now (sheet .entry)) regions parameters) number ⌝ }
 {
+    if parameters == 0 {
+        return SoughtParameter::Missing;
+    }
+    let last = parameters - 1;
     let mut j: u8 = 0;
-    while j < parameters {
-        let at = 4 + 10 * (regions as usize) + 8 * (j as usize);
-        let parameter = parameter_in(sheet, at);
-        if parameter.number == number {
-            return SoughtParameter::Found(parameter);
+    while j < last {
+        let passed = parameter_at(sheet, regions, j);
+        if passed.number == number {
+            break;
         }
         j += 1;
+    }
+    let parameter = parameter_at(sheet, regions, j);
+    if parameter.number == number {
+        return SoughtParameter::Found(parameter);
     }
     SoughtParameter::Missing
 }

@@ -1,9 +1,13 @@
 -- `machine::judging::data_checks` meets its contract, code by code.
-use mathlib.Core.Path.{refl, sym, ap, _∙_}
+use mathlib.Core.Bool.{Bool, true, false, not}
+use mathlib.Core.Path.{_≡_, refl, sym, ap, _∙_}
 use borrow.Author.Needs.{needs}
+use lib.Dec.{eqb}
+use Rattle.octets.specs.Pick.{pick}
 use Rattle.octets.proofs.Pick.{pick-eq, pick-ne, pick-key}
-use Rattle.machine.specs.Judging.{dataOf}
+use Rattle.machine.specs.Judging.{memoryOf, dataOf}
 use Rattle.machine.specs.declared.words.Effect.the-variants.{Quiet}
+use Rattle.machine.specs.declared.words.Judgement.{Judgement}
 use Rattle.machine.specs.declared.words.Judgement.the-variants.{Accepted}
 use Rattle.machine.proofs.judging.data_checks.Statement.{statement}
 use Rattle.machine.proofs.judging.data_checks.Tie as tie
@@ -104,29 +108,20 @@ returns-9 c =
     ∙ pick-key 14 _ _ (c .before .match .keys9) refl
     ∙ pick-eq _ _ (c .before .match .keys9))
 
+-- the two memory commands are one call
+either : (f : Bool → Judgement) (b : Bool) → f (not b) ≡ pick b (f false) (f true)
+unfolding pick
+either f true = refl
+either f false = refl
+
 returns-10 : tie.Need-returns-10
 unfolding dataOf
 returns-10 c =
+    let a = c .before .before .before .args in
     c .memory .ensures
+    ∙ either (λ w. memoryOf w (a .sheet .now) (a .layout) (a .st) (a .c)) (eqb (a .c .code) 29)
     ∙ sym
-    (pick-key 0 _ _ (c .before .match .keys10) refl
-    ∙ pick-key 1 _ _ (c .before .match .keys10) refl
-    ∙ pick-key 2 _ _ (c .before .match .keys10) refl
-    ∙ pick-key 3 _ _ (c .before .match .keys10) refl
-    ∙ pick-key 5 _ _ (c .before .match .keys10) refl
-    ∙ pick-key 6 _ _ (c .before .match .keys10) refl
-    ∙ pick-key 13 _ _ (c .before .match .keys10) refl
-    ∙ pick-key 14 _ _ (c .before .match .keys10) refl
-    ∙ pick-key 15 _ _ (c .before .match .keys10) refl
-    ∙ pick-eq _ _ (c .before .match .keys10))
-
-returns-11 : tie.Need-returns-11
-unfolding dataOf
-returns-11 c =
-    c .memory2 .ensures
-    ∙ sym
-    (pick-ne _ _ (c .before .match .rest .0 .0 .0 .0 .0 .0 .0 .0 .0 .1)
-    ∙ pick-ne _ _ (c .before .match .rest .0 .0 .0 .0 .0 .0 .0 .0 .1)
+    (pick-ne _ _ (c .before .match .rest .0 .0 .0 .0 .0 .0 .0 .0 .1)
     ∙ pick-ne _ _ (c .before .match .rest .0 .0 .0 .0 .0 .0 .0 .1)
     ∙ pick-ne _ _ (c .before .match .rest .0 .0 .0 .0 .0 .0 .1)
     ∙ pick-ne _ _ (c .before .match .rest .0 .0 .0 .0 .0 .1)
@@ -139,5 +134,5 @@ returns-11 c =
 pub data-checks-spec : {M : Type 1} → statement M
 data-checks-spec =
     tie.close (tie.spec (λ c κs. search needs) (λ c κs. search needs) (λ c κs. search needs) (λ c κs. search needs) (λ c κs. search needs)
-    (λ c κs. search needs) (λ c κs. search needs) (λ c κs. search needs) (λ c κs. c .before .before .pre .laid) (λ c κs. c .before .before .pre .laid) returns returns-2
-    returns-3 returns-4 returns-5 returns-6 returns-7 returns-8 returns-9 returns-10 returns-11)
+    (λ c κs. search needs) (λ c κs. search needs) (λ c κs. search needs) (λ c κs. c .before .before .pre .laid) returns returns-2
+    returns-3 returns-4 returns-5 returns-6 returns-7 returns-8 returns-9 returns-10)

@@ -211,6 +211,12 @@ add-t26 c =
 sub-t27 : tie.Need-sub-t27 Inv-loop μ-loop Inv-octets μ-octets
 sub-t27 c = omega (arith, passed-one c .0)
 
+-- regions are apart, so no more octets of memory come before the first than addresses
+cast-t28 : tie.Need-cast-t28 Inv-loop μ-loop Inv-octets μ-octets
+cast-t28 c =
+    let k = stopped (c .before .before) in
+    omega (arith, k .placed .dense)
+
 returns-3 : tie.Need-returns-3 Inv-loop μ-loop Inv-octets μ-octets
 returns-3 c =
     let a = c .before .before .before .before .before .args in
@@ -225,4 +231,4 @@ pub before-spec : {M : Type 1} → statement M
 before-spec =
     tie.close (tie.spec Inv-loop μ-loop Inv-octets μ-octets (λ c. search needs) (λ c. search needs) (λ c. search needs) octets-holds loop-holds region-in-requires
     (λ c κs. search needs) (λ c. search needs) (λ c. search needs) (λ c. search needs) (λ c. search needs) add-base add-place loop-less loop-again add-at octets-less octets-again
-    sub-t23 cast-t24 returns returns-2 sub-t14 cast-t25 add-t26 sub-t27 returns-3)
+    sub-t23 cast-t24 returns returns-2 sub-t14 cast-t25 add-t26 sub-t27 cast-t28 returns-3)

@@ -3,7 +3,7 @@ use mathlib.Core.Bool.{not}
 use mathlib.Core.Path.{sym, ap, _∙_}
 use borrow.Author.Needs.{needs}
 use Rattle.octets.proofs.Pick.{pick-lt, pick-ge, pick-le, pick-gt}
-use Rattle.regions.specs.Passed.{deniesOf}
+use Rattle.regions.specs.Denies.{deniesOf}
 use Rattle.regions.proofs.search.denies.Statement.{statement}
 use Rattle.regions.proofs.search.denies.Tie as tie
 
