@@ -14,7 +14,7 @@
  *    those named with it, and nothing on a refusal (any number but 0 and 34).
  *  - No call keeps anything: no global data, no pointer, no heap.  Every call
  *    is reentrant; threads may call at once as long as no buffer that one of
- *    them writes is shared.  A call needs up to 2 KiB of stack.
+ *    them writes is shared.  A call needs up to 1 KiB of stack.
  *  - Numbers of more than one octet in sheet, command and reply are sent low
  *    octet first.
  *

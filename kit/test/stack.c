@@ -1,130 +1,248 @@
-/* Measures the stack that the calls need for the largest sheet: all calls in
- * turn with the frames of the test itself, which is what may not exceed the
- * promise; and exchange and replay alone, less what an empty function takes. */
+/* Measures the stack that every call needs, alone, less what an empty function
+ * takes there: on the smallest sheet, on the largest, and on the largest with a
+ * last region that gives no right; every code in every link, accepted and
+ * refused; refused calls; traces that agree, that differ and that have a fault.
+ * Fails where a call takes what the header promises, or more. */
 #include "painted.h"
 #include "sheets.h"
 
 #include <stdio.h>
+#include <stdlib.h>
 #include <string.h>
 
-#define PROMISED (2u * 1024u) /* what the header tells the integrator */
+#ifndef PROMISED
+#define PROMISED 1024u /* what the header tells the integrator */
+#endif
+#define RECORDS 256u
+
+enum { SHEET, LENGTHS, RESET, ENABLE, EXCHANGE, REPLAY, CALLS };
+static const char *const names[CALLS] = { "sheet",  "lengths",  "reset",
+                                          "enable", "exchange", "replay" };
 
 static struct built sheet;
-static uint8_t state[T24_STATE_LEN], memory[T24_MEMORY_MAX];
+static size_t l, sheet_len, state_len, memory_len;
+static uint8_t state[T24_STATE_LEN + 1], memory[T24_MEMORY_MAX + 1];
 static uint8_t command[T24_L_MAX], reply[T24_L_MAX];
-static uint8_t trace[16 * (1 + 2 * T24_L_MAX)];
-static size_t trace_len;
-
-static void make_command(unsigned code)
-{
-    memset(command, 0, sizeof command);
-    command[0] = (uint8_t)code;
-    command[6] = 1;
-    if (code == T24_PRM_RD || code == T24_PRM_WR) {
-        command[4] = 63; /* the last parameter, of 56 octets */
-        command[6] = 56;
-    }
-    if (code == T24_CONNECT)
-        command[4] = 0x30;
-    if (code == T24_MEM_RD || code == T24_MEM_WR) {
-        command[5] = T24_ELEMENT_4;
-        command[6] = 13;
-        command[8] = 0xD0; /* crosses into the last region */
-        command[9] = 0x07;
-        command[10] = 0x01;
-    }
-}
-
-static uint64_t one_exchange(void)
-{
-    return t24_exchange(sheet.octets, sheet.len, state, sizeof state, memory,
-                        sizeof memory, command, sizeof command, reply,
-                        sizeof reply) + t24_reply_alarm(reply);
-}
-
-/* The exchange just made becomes the trace's next record. */
-static void keep_record(void)
-{
-    trace[trace_len] = T24_TRACE_8 + 4;
-    memcpy(trace + trace_len + 1, command, sizeof command);
-    memcpy(trace + trace_len + 1 + sizeof command, reply, sizeof reply);
-    trace_len += 1 + 2 * T24_L_MAX;
-}
-
-static const uint8_t codes[] = {
-    T24_CONNECT, T24_NOP, T24_PRM_RD, T24_PRM_WR, T24_ID_RD, T24_ALM_RD,
-    T24_ALM_CLR, T24_MEM_RD, T24_MEM_WR, T24_SYNC_SET, T24_DISCONNECT
-};
 static uint8_t start[T24_STATE_LEN];
-static uint64_t sum;
+static uint8_t trace[RECORDS * (1 + 2 * T24_L_MAX)];
+static size_t trace_len;
+static uint64_t answer;
+static size_t empty, most[CALLS];
+static unsigned accepted[32], refused[32], differed, faulty;
 
-static void bring_up(void)
+static void nothing(void) { answer = 0; }
+static void ask_sheet(void) { answer = t24_sheet(sheet.octets, sheet_len); }
+
+static void ask_lengths(void) { answer = t24_lengths(sheet.octets, sheet_len); }
+
+static void ask_reset(void)
 {
-    sum = t24_sheet(sheet.octets, sheet.len);
-    sum += t24_lengths(sheet.octets, sheet.len) == 0;
-    sum += t24_reset(sheet.octets, sheet.len, state, sizeof state);
-    sum += t24_enable(sheet.octets, sheet.len, state, sizeof state);
-    memcpy(start, state, sizeof start);
+    answer = t24_reset(sheet.octets, sheet_len, state, state_len);
+}
+
+static void ask_enable(void)
+{
+    answer = t24_enable(sheet.octets, sheet_len, state, state_len);
+}
+
+static void ask_exchange(void)
+{
+    answer = t24_exchange(sheet.octets, sheet_len, state, state_len, memory,
+                          memory_len, command, l, reply, l);
+}
+
+static void ask_replay(void)
+{
+    answer = t24_replay(sheet.octets, sheet_len, state, state_len, memory,
+                        memory_len, trace, trace_len);
+}
+
+static void (*const calls[CALLS])(void) = { ask_sheet,  ask_lengths,
+                                            ask_reset,  ask_enable,
+                                            ask_exchange, ask_replay };
+
+static void measure(int which)
+{
+    const size_t used = stack_used_by(calls[which]);
+
+    if (used == sizeof painted)
+        exit(3); /* it did not run */
+    if (used - empty > most[which])
+        most[which] = used - empty;
+}
+
+/* What must come out, or nothing was measured that is meant here. */
+static void must(int holds, const char *what)
+{
+    if (!holds) {
+        printf("stack: FAILED: not measured: %s\n", what);
+        exit(1);
+    }
+}
+
+static void lend(size_t length, size_t octets)
+{
+    l = length;
+    sheet_len = sheet.len;
+    state_len = T24_STATE_LEN;
+    memory_len = octets;
     trace_len = 0;
+    memset(memory, 0, sizeof memory);
 }
 
-/* The writes wrote zeros over zeros, so the memory is as at the start. */
-static void replay(void)
+/* Every call on lengths that are one too short and one too long, and on a
+ * sheet that is cut or that ends with a wrong record. */
+static void measure_refused_calls(void)
 {
-    sum += t24_replay(sheet.octets, sheet.len, start, sizeof start, memory,
-                      sizeof memory, trace, trace_len)
-           != (uint64_t)sizeof codes << 32;
+    int which, lack;
+
+    for (which = SHEET; which < CALLS; which++) {
+        for (lack = 0; lack < 4; lack++) {
+            sheet_len = sheet.len - (lack == 0) - (lack == 1) * sheet.len;
+            state_len = T24_STATE_LEN - (lack == 2);
+            memory_len += lack == 3;
+            measure(which);
+            memory_len -= lack == 3;
+        }
+        sheet_len = sheet.len;
+        state_len = T24_STATE_LEN;
+        sheet.octets[sheet.len - 1] = 9;
+        measure(which);
+        sheet.octets[sheet.len - 1] = T24_RECORD_END;
+    }
 }
 
-/* All calls and every kind of command; runs on the painted stack. */
-static void everything(void)
+/* A command that the largest sheet accepts, or with every field wrong. */
+static void make_command(unsigned code, int wrong)
 {
+    memset(command, wrong ? 0xFF : 0, sizeof command);
+    command[0] = (uint8_t)code;
+    command[T24_COMMAND_AT_WDT] = 0;
+    if (wrong)
+        return;
+    if (code == T24_PRM_RD || code == T24_PRM_WR) {
+        command[T24_PRM_AT_NUMBER] = 63; /* the last one, in two regions */
+        command[T24_PRM_AT_SIZE] = 56;
+    }
+    if (code == T24_ID_RD) {
+        command[T24_ID_AT_CODE] = 31;
+        command[T24_ID_AT_SIZE] = 32;
+    }
+    if (code == T24_CONNECT) {
+        command[T24_CONNECT_AT_VERSION] = 0x30;
+        command[T24_CONNECT_AT_COM_TIME] = 1;
+    }
+    if (code == T24_MEM_RD || code == T24_MEM_WR) {
+        command[T24_MEM_AT_ELEMENT] = T24_ELEMENT_4;
+        command[T24_MEM_AT_COUNT] = 13;
+        command[T24_MEM_AT_ADDRESS] = 0xF0; /* crosses into the last region */
+        command[T24_MEM_AT_ADDRESS + 1] = 0x07;
+        command[T24_MEM_AT_ADDRESS + 2] = 0x01;
+    }
+}
+
+/* The start of the exchanges: a link, with MN known in the last one. */
+static void enter(unsigned link)
+{
+    memset(start, 0, sizeof start);
+    start[T24_AT_KIND] = T24_STATE_KIND;
+    start[T24_AT_LINK] = (uint8_t)link;
+    start[T24_AT_L] = (uint8_t)l;
+    start[T24_AT_COM_TIME] = link > T24_LINK_DISCONNECTED;
+    start[T24_AT_MN_KNOWN] = link == T24_LINK_SYNC;
+    start[T24_AT_LAST_MN] = link == T24_LINK_SYNC ? 15 : 0;
+}
+
+static void measure_exchange(unsigned code, int wrong, int lost)
+{
+    make_command(code, wrong);
+    command[T24_COMMAND_AT_WDT] = (uint8_t)(lost ? 5 : 0); /* 0 follows 15 */
+    memcpy(state, start, sizeof start);
+    measure(EXCHANGE);
+    must(t24_number(answer) == T24_DONE, "an exchange that is executed");
+    if (t24_reply_alarm(reply) != 0)
+        refused[code]++;
+    else if (!lost)
+        accepted[code]++;
+}
+
+/* A replay of the exchange just made, as it was, and with an octet changed at
+ * the reply's front and at its end. */
+static void measure_replay(void)
+{
+    size_t change;
+
+    trace_len = 1 + 2 * l;
+    trace[0] = (uint8_t)(l == T24_L8 ? T24_TRACE_8 : T24_TRACE_64);
+    memcpy(trace + 1, command, l);
+    memcpy(trace + 1 + l, reply, l);
+    for (change = 0; change < 3; change++) {
+        trace[1 + l] ^= change == 1;
+        trace[2 * l] ^= change == 2;
+        memcpy(state, start, sizeof start);
+        measure(REPLAY);
+        differed += t24_number(answer) == T24_TRACE_DIFFERS;
+        must(change > 0 || answer == (uint64_t)1 << 32, "a trace that agrees");
+        trace[1 + l] ^= change == 1;
+    }
+    trace[0] = 0;
+    measure(REPLAY);
+    faulty += t24_number(answer) != 0;
+}
+
+static void measure_sheet(void)
+{
+    unsigned link, code, k;
+    int which;
+
+    for (which = SHEET; which <= ENABLE; which++)
+        measure(which);
+    must(answer == T24_DONE, "an accepted call");
+    for (link = T24_LINK_DISCONNECTED; link <= T24_LINK_SYNC; link++) {
+        enter(link);
+        for (code = 0; code < 32; code++)
+            for (k = 0; k < 3; k++) {
+                measure_exchange(code, k == 1, k == 2);
+                measure_replay();
+            }
+    }
+    measure_refused_calls();
+}
+
+/* Every code was accepted, and every one that can be refused was refused. */
+static int all_codes(void)
+{
+    static const uint8_t codes[] = { T24_PRM_RD, T24_PRM_WR,   T24_ID_RD,
+                                     T24_ALM_RD, T24_ALM_CLR,  T24_CONNECT,
+                                     T24_MEM_RD, T24_MEM_WR,   T24_SYNC_SET };
     size_t i;
+    int all = accepted[T24_NOP] > 0 && accepted[T24_DISCONNECT] > 0;
 
-    bring_up();
-    for (i = 0; i < sizeof codes; i++) {
-        make_command(codes[i]);
-        sum += one_exchange();
-        keep_record();
-    }
-    replay();
-}
-
-static void nothing(void) { sum += trace_len == sizeof trace; }
-
-static void exchange(void) { sum += one_exchange(); }
-
-/* The most that an exchange of any kind takes, alone. */
-static size_t most_of_exchanges(void)
-{
-    size_t i, most = 0, used;
-
-    bring_up();
-    for (i = 0; i < sizeof codes; i++) {
-        make_command(codes[i]);
-        used = stack_used_by(exchange);
-        most = used > most ? used : most;
-        keep_record();
-    }
-    return most;
+    for (i = 0; i < sizeof codes; i++)
+        all = all && accepted[codes[i]] > 0 && refused[codes[i]] > 0;
+    return all && refused[4] > 0 && differed > 0 && faulty > 0;
 }
 
 int main(void)
 {
-    size_t all, empty, of_exchange, of_replay;
-    int good;
+    int which, good = 1;
 
-    build_largest(&sheet, 64);
-    all = stack_used_by(everything);
-    good = sum == 0 && all <= PROMISED;
     empty = stack_used_by(nothing);
-    of_exchange = most_of_exchanges() - empty;
-    of_replay = stack_used_by(replay) - empty;
-    good = good && sum == 0;
-    printf("stack: %lu octets for all calls in turn and the test's own frames; "
-           "alone, exchange %lu, replay %lu; largest sheet of %lu octets: %s\n",
-           (unsigned long)all, (unsigned long)of_exchange,
-           (unsigned long)of_replay, (unsigned long)sheet.len,
-           good ? "ok" : "FAILED");
+    add_link(&sheet, T24_L8);
+    add_end(&sheet);
+    lend(T24_L8, 0);
+    measure_sheet();
+    build_largest(&sheet, T24_L64);
+    lend(T24_L64, T24_MEMORY_MAX);
+    measure_sheet();
+    sheet.octets[4 + 10 * 31 + 9] = 0; /* the last region's rights */
+    measure_sheet();
+    must(all_codes(), "every code, accepted and refused");
+    printf("stack, octets at most:");
+    for (which = SHEET; which < CALLS; which++) {
+        printf(" %s %lu;", names[which], (unsigned long)most[which]);
+        good = good && most[which] < PROMISED;
+    }
+    printf(" promised under %u: %s\n", PROMISED, good ? "ok" : "FAILED");
     return good ? 0 : 1;
 }

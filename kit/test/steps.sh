@@ -157,10 +157,15 @@ test_that_words_fail() {
         's/t24_put_decimal(text, memory_len);/t24_put_decimal(text, wanted);/'
 }
 
+# Of the product, and of the archive for the processor at hand; and a promise that is not kept must be noticed.
 test_stack() {
     say "stack"
     $C -static stack.c sheets.c $LIB -o "$work/stack"
     run "$work/stack" || fail "stack"
+    $HAND -static stack.c sheets.c $HAND_LIB -o "$work/stack-at-hand"
+    hand "$work/stack-at-hand" || fail "stack at hand"
+    $HAND -DPROMISED=500u -static stack.c sheets.c $HAND_LIB -o "$work/stack-wrong"
+    must_fail "a call over the promised stack" FAILED hand "$work/stack-wrong"
 }
 
 # The page's first exchange must be what a reader can type off.
