@@ -1,6 +1,5 @@
 -- `sheet::kinds::is_kind` meets its contract: the two tests are the definition's.
 use mathlib.Core.Path.{refl}
-use borrow.Author.Needs.{needs}
 use Rattle.sheet.specs.Kinds.{isKind}
 use Rattle.sheet.proofs.kinds.is_kind.Statement.{statement}
 use Rattle.sheet.proofs.kinds.is_kind.Tie as tie
