@@ -12,17 +12,17 @@ use Rattle.sheet.specs.declared.walk.Layout.{Layout}
 use Rattle.sheet.specs.declared.walk.Verdict.{Verdict}
 use Rattle.sheet.specs.declared.walk.Verdict.the-variants.{Valid, Faulty}
 use Rattle.slave.specs.Answers.{sheetAnswer}
-use Rattle.slave.specs.Calls.{resetOf, enableOf}
+use Rattle.slave.specs.Calls.{resetOf, enableOf, turnOf}
 use Rattle.slave.specs.Exchange.{exchangeOf}
 use Rattle.slave.proofs.Order.{on-faulty}
 use Rattle.type24.specs.Packed.{packed, PackedAfter, packedAfter, PackedLeft, packedLeft, lengthsOf, PackedReplay, packedReplay}
 use Rattle.law.specs.Words.{Every}
 use Rattle.law.specs.Sheet.{Sheet, WellFormed, IsOctet, sheetOctets}
 use Rattle.law.specs.Faults.{FirstFault}
-use Rattle.law.specs.Calls.{Result, result, sheetTold, lengths, reset, enable, exchange}
+use Rattle.law.specs.Calls.{Result, result, sheetTold, lengths, reset, enable, exchange, turn}
 use Rattle.law.specs.Trace.{Form, HasForm, replay}
 use Rattle.law.specs.ByTables.{hostHas, ByLaw, OneReading, ByTables}
-use Rattle.law.proofs.Calls.{leaves, leavesState, exchange-good, reset-good, enable-good}
+use Rattle.law.proofs.Calls.{leaves, leavesState, exchange-good, reset-good, enable-good, turn-good}
 use Rattle.law.proofs.Complete.{complete}
 use Rattle.law.proofs.Numbered.{fault-is}
 use Rattle.law.proofs.Octets.{in-octets}
@@ -111,6 +111,10 @@ enables-bad : (sheet s : List ℕ) (f : Fault) (place : ℕ) → verdictOf sheet
 unfolding enableOf sheetAnswer
 enables-bad sheet s f place e = ap leavesState (on-faulty _ f place _ _ e) ∙ ap (λ (v : Verdict). result (sheetAnswer v .number) (sheetAnswer v .place) s [] []) e
 
+turns-bad : (sheet old s : List ℕ) (f : Fault) (place : ℕ) → verdictOf sheet ≡ Faulty f place → leavesState (turnOf sheet old s) ≡ result (numberOf f) place s [] []
+unfolding turnOf sheetAnswer
+turns-bad sheet old s f place e = ap leavesState (on-faulty _ f place _ _ e) ∙ ap (λ (v : Verdict). result (sheetAnswer v .number) (sheetAnswer v .place) s [] []) e
+
 pub exchanges-bad : (sheet s m c r : List ℕ) (f : Fault) (place : ℕ) → verdictOf sheet ≡ Faulty f place → leaves (exchangeOf sheet s m c r) ≡ result (numberOf f) place s m r
 unfolding exchangeOf sheetAnswer
 exchanges-bad sheet s m c r f place e = ap leaves (on-faulty _ f place _ _ e) ∙ ap (λ (v : Verdict). result (sheetAnswer v .number) (sheetAnswer v .place) s m r) e
@@ -143,6 +147,9 @@ by-tables = record {
       (hostHas a s′ [] []) (λ p. ap (λ (x : PackedAfter). hostHas (x .answer) (x .state) [] []) p) (λ p. ap (λ (x : Result). packedAfter (x .answer) (x .state)) p);
   enables = λ sheet s a s′ o. exactly sheet o (leavesState (enableOf sheet s)) (λ h x. x ≡ enable h s) (λ f place. result f place s [] [])
       (λ h w e. ap (λ (x : List ℕ). leavesState (enableOf x s)) e ∙ enable-good h w s) (equal (λ h. enable h s)) (enables-bad sheet s)
+      (hostHas a s′ [] []) (λ p. ap (λ (x : PackedAfter). hostHas (x .answer) (x .state) [] []) p) (λ p. ap (λ (x : Result). packedAfter (x .answer) (x .state)) p);
+  turns = λ sheet old s a s′ o. exactly sheet o (leavesState (turnOf sheet old s)) (λ h x. x ≡ turn h old s) (λ f place. result f place s [] [])
+      (λ h w e. ap (λ (x : List ℕ). leavesState (turnOf x old s)) e ∙ turn-good h w old s) (equal (λ h. turn h old s)) (turns-bad sheet old s)
       (hostHas a s′ [] []) (λ p. ap (λ (x : PackedAfter). hostHas (x .answer) (x .state) [] []) p) (λ p. ap (λ (x : Result). packedAfter (x .answer) (x .state)) p);
   exchanges = λ sheet s m c r a s′ m′ r′ o. exactly sheet o (leaves (exchangeOf sheet s m c r)) (λ h x. x ≡ exchange h s m c r) (λ f place. result f place s m r)
       (λ h w e. ap (λ (x : List ℕ). leaves (exchangeOf x s m c r)) e ∙ exchange-good h w s m c r) (equal (λ h. exchange h s m c r)) (exchanges-bad sheet s m c r)

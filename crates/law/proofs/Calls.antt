@@ -15,26 +15,27 @@ use Rattle.frame.specs.Body.{Fitting}
 use Rattle.frame.specs.Fields.{commandOf}
 use Rattle.law.proofs.Layouts.{layoutFor}
 use Rattle.law.specs.Words.{when, piece, laid, overFrom, over}
-use Rattle.law.specs.Sheet.{Sheet, WellFormed, sheetOctets, room}
-use Rattle.law.specs.State.{link, validState}
+use Rattle.law.specs.Sheet.{Sheet, WellFormed, sheetOctets, room, allows}
+use Rattle.law.specs.State.{link, validState, validOld}
 use Rattle.law.specs.Exchange.{fateOf}
-use Rattle.law.specs.Calls.{Result, result, done, exchange, reset, enable}
+use Rattle.law.specs.Calls.{Result, result, done, exchange, reset, enable, turn}
 use Rattle.law.proofs.Complete.{complete}
 use Rattle.link.specs.Steps.{fresh, enabled}
 use Rattle.link.specs.Stored.{octetsOf, fieldsOf, stateOf}
 use Rattle.link.specs.declared.state.LinkState.{LinkState}
+use Rattle.link.specs.Old.{oldStateOf}
 use Rattle.link.proofs.Facts.{Facts}
 use Rattle.machine.specs.Outcomes.{outcomeOf}
 use Rattle.sheet.proofs.Valid.{valid-sheet}
 use Rattle.sheet.specs.declared.walk.Layout.{Layout}
 use Rattle.sheet.specs.declared.walk.Verdict.{Verdict}
 use Rattle.slave.specs.Answers.{told, onSheet, onState}
-use Rattle.slave.specs.Calls.{After, after, resetOf, enableOf}
+use Rattle.slave.specs.Calls.{After, after, resetOf, enableOf, turnOf}
 use Rattle.slave.specs.Exchange.{Left, left, refusalOf, exchanged, exchangeOf}
 use Rattle.slave.proofs.Fits.{outcome-fits}
 use Rattle.law.proofs.Laid.{when-yes, when-no}
 use Rattle.machine.proofs.Nexts.{outcome-valid}
-use Rattle.law.proofs.Clauses.{state-yes, state-no}
+use Rattle.law.proofs.Clauses.{state-yes, state-no, old-true, old-yes, old-no, turned}
 use Rattle.law.proofs.Replies.{reply-same, fate-small}
 use Rattle.law.proofs.Worlds.{world-of}
 use Rattle.law.proofs.Fates.{outcome-same}
@@ -51,14 +52,14 @@ some zero z = absurd (z refl)
 some (suc n) z = omega arith
 
 -- an exchange that nothing refuses
-pub done-same : (h : Sheet) → WellFormed h → (st : LinkState) → Facts (h .l) st → (m c : List ℕ) → length m ≡ room (h .regions) → length c ≡ h .l → (st .link ≡ 0 → ⊥)
+pub done-same : (h : Sheet) → WellFormed h → (st : LinkState) → Facts (h .l) (allows h) st → (m c : List ℕ) → length m ≡ room (h .regions) → length c ≡ h .l → (st .link ≡ 0 → ⊥)
     → leaves (exchanged (sheetOctets h) (layoutFor h) st m c) ≡ done h (octetsOf st) m c (fateOf h (octetsOf st) m c)
 unfolding exchanged
 done-same h w st f m c whole asked on =
     let world = world-of h w m whole in
     let o = outcomeOf (sheetOctets h) (layoutFor h) st (commandOf c) in
     let same = outcome-same h (sheetOctets h) st m c f on world asked in
-    let v = outcome-valid (sheetOctets h) (layoutFor h) st (commandOf c) (h .l) f (some (st .link) on) in
+    let v = outcome-valid (sheetOctets h) (layoutFor h) st (commandOf c) (h .l) f (some (st .link) on) (omega (arith, world .few)) in
     let fits = subst₂ (λ (x y : ℕ). Fitting (o .effect) x y (length (sheetOctets h))) (sym asked) (sym whole)
     (outcome-fits (sheetOctets h) (layoutFor h) (valid-sheet (sheetOctets h) (layoutFor h) (complete h w)) st (commandOf c)) in
     let r = reply-same h (sheetOctets h) st m c o (fateOf h (octetsOf st) m c) same (fate-small h (octetsOf st) m c) v asked (world .long) fits in
@@ -85,7 +86,7 @@ module _ (h : Sheet) (w : WellFormed h) where
   refusal st m c r n e z A state memory reply =
       ap leaves (pick-differ _ _ (λ q. z (sym e ∙ q))) ∙ ap (λ (k : ℕ). result k 0 state memory reply) e
 
-  on-valid : (s m c r : List ℕ) (st : LinkState) → s ≡ octetsOf st → Facts (h .l) st
+  on-valid : (s m c r : List ℕ) (st : LinkState) → s ≡ octetsOf st → Facts (h .l) (allows h) st
       → leaves (pick (not (eqb (refusalOf lay st (length m) (length c) (length r)) 0))
       (left (told (refusalOf lay st (length m) (length c) (length r)) 0) s m r) (exchanged (sheetOctets h) lay st m c))
       ≡ when (not (eqb (length m) (room (h .regions)))) (result 2 0 s m r)
@@ -127,7 +128,7 @@ module _ (h : Sheet) (w : WellFormed h) where
   unfolding exchangeOf exchange onSheet onState fieldsOf
   exchange-good s m c r =
       ap (λ (v : Verdict). leaves (onSheet v (λ refusal. left refusal s m r) (λ lay.
-      onState (stateOf s (lay .l)) (left (told 1 0) s m r) (λ st.
+      onState (stateOf s (lay .l) (lay .tolerance)) (left (told 1 0) s m r) (λ st.
       pick (not (eqb (refusalOf lay st (length m) (length c) (length r)) 0))
       (left (told (refusalOf lay st (length m) (length c) (length r)) 0) s m r) (exchanged (sheetOctets h) lay st m c))))) (complete h w)
       ∙ ⊎-elim (λ (v : validState h s ≡ true).
@@ -147,14 +148,14 @@ module _ (h : Sheet) (w : WellFormed h) where
   unfolding resetOf reset onSheet octetsOf
   reset-good s =
       ap (λ (v : Verdict). leavesState (onSheet v (λ refusal. after refusal s) (λ layout.
-      pick (not (eqb (length s) 10)) (after (told 1 0) s) (after (told 0 0) (octetsOf (fresh (layout .l))))))) (complete h w)
-      ∙ picked (not (eqb (length s) 10)) (after (told 1 0) s) (after (told 0 0) (octetsOf (fresh (h .l)))) refl refl
+      pick (not (eqb (length s) 11)) (after (told 1 0) s) (after (told 0 0) (octetsOf (fresh (layout .l))))))) (complete h w)
+      ∙ picked (not (eqb (length s) 11)) (after (told 1 0) s) (after (told 0 0) (octetsOf (fresh (h .l)))) refl refl
 
   pub enable-good : (s : List ℕ) → leavesState (enableOf (sheetOctets h) s) ≡ enable h s
   unfolding enableOf enable onSheet onState fieldsOf
   enable-good s =
       ap (λ (v : Verdict). leavesState (onSheet v (λ refusal. after refusal s) (λ layout.
-      onState (stateOf s (layout .l)) (after (told 1 0) s) (λ st. pick (not (eqb (st .link) 0)) (after (told 6 0) s) (after (told 0 0) (octetsOf (enabled st))))))) (complete h w)
+      onState (stateOf s (layout .l) (layout .tolerance)) (after (told 1 0) s) (λ st. pick (not (eqb (st .link) 0)) (after (told 6 0) s) (after (told 0 0) (octetsOf (enabled st))))))) (complete h w)
       ∙ ⊎-elim (λ (v : validState h s ≡ true).
       let q = state-yes h s v in
       ap (λ x. leavesState (onState x (after (told 1 0) s) (λ st. pick (not (eqb (st .link) 0)) (after (told 6 0) s) (after (told 0 0) (octetsOf (enabled st)))))) (q .0)
@@ -163,3 +164,15 @@ module _ (h : Sheet) (w : WellFormed h) where
       ap (λ x. leavesState (onState x (after (told 1 0) s) (λ st. pick (not (eqb (st .link) 0)) (after (told 6 0) s) (after (told 0 0) (octetsOf (enabled st)))))) (state-no h s v)
       ∙ sym (when-yes _ _ (ap not v)))
       (decided (validState h s))
+
+  pub turn-good : (old s : List ℕ) → leavesState (turnOf (sheetOctets h) old s) ≡ turn h old s
+  unfolding turnOf turn onSheet onState
+  turn-good old s =
+      let new : LinkState → After = λ st. pick (not (eqb (length s) 11)) (after (told 1 0) s) (after (told 0 0) (octetsOf st)) in
+      ap (λ (v : Verdict). leavesState (onSheet v (λ refusal. after refusal s) (λ layout. onState (oldStateOf old (layout .l)) (after (told 1 0) s) new))) (complete h w)
+      ∙ ⊎-elim (λ (v : validOld h old ≡ true).
+      ap (λ x. leavesState (onState x (after (told 1 0) s) new)) (old-yes h old v)
+      ∙ picked (not (eqb (length s) 11)) (after (told 1 0) s) (after (told 0 0) (octetsOf (fieldsOf old))) refl
+      (ap (λ (t : List ℕ). result 0 0 t [] []) (turned old (old-true h old v .0))) ∙ sym (when-no _ _ (ap not v)))
+      (λ (v : validOld h old ≡ false). ap (λ x. leavesState (onState x (after (told 1 0) s) new)) (old-no h old v) ∙ sym (when-yes _ _ (ap not v)))
+      (decided (validOld h old))

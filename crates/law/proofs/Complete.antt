@@ -1,206 +1,38 @@
 -- The writing of a well-formed sheet is valid.
 use mathlib.Core.Bool.{Bool, true, false, not}
 use mathlib.Core.Logic.{⊎-elim}
-use mathlib.Core.Path.{_≡_, refl, sym, ap, ap₂, _∙_}
+use mathlib.Core.Path.{_≡_, refl, sym, ap, subst, _∙_}
 use mathlib.Core.List.{List, [], _∷_, _++_, map}
 use Prim.Native.Nat.{ℕ, zero, suc, _+_, _-_, _*_, _≤_, _<_}
 use native.Mathlib.Nat.{le-refl}
-use native.Mathlib.Numerals.{add-one}
 use native.Mathlib.Omega.{arith}
 use borrow.Author.Tests.{ne-eqb, eq-eqb}
 use lib.Dec.{eqb}
-use lib.ListN.{length, getD, take, drop, length-append, length-drop}
-use lib.Seq.{take-at, drop-at, drop-drop, drop-append-le}
-use Rattle.octets.specs.Parts.{allZero}
-use Rattle.octets.proofs.Cases.{decided}
-use Rattle.octets.proofs.Pick.{pick-yes, pick-no, pick-ge, pick-gt, pick-ne}
-use Rattle.regions.specs.Region.{regionFrom, regionAt, regionsOf, listed, holdsOf, givesOf}
-use Rattle.regions.specs.Search.{grantsOf, beforeOf, spanHas}
-use Rattle.regions.specs.declared.Region.{Region}
-use Rattle.regions.specs.declared.Right.the-variants.{Mapped}
-use Rattle.regions.proofs.Bounds.{bounds-hold}
-use Rattle.regions.proofs.Spans.{before-all}
-use Rattle.sheet.specs.Entries.{parameterFrom, parameterAt, itemFrom, itemAt}
-use Rattle.sheet.specs.Judging.{judgedRegion, judgedParameter, judgedItem}
-use Rattle.sheet.specs.Kinds.{isLength, sizeOf, misplacedOf, endBefore, leastNumber, leastCode}
-use Rattle.sheet.specs.Reading.{linkOf, regionOf, parameterOf, itemOf, bodyOf, recordOf, tailOf}
-use Rattle.sheet.specs.Walk.{none, layoutOf, endedOf, onward, walkOf, verdictOf}
-use Rattle.sheet.specs.declared.entries.Parameter.{Parameter}
-use Rattle.sheet.specs.declared.entries.Item.{Item}
+use lib.ListN.{length, getD, drop, length-append}
+use lib.Seq.{getD-drop, drop-at, drop-drop}
+use Rattle.octets.proofs.Pick.{pick-yes, pick-no, pick-ge, pick-ne}
+use Rattle.regions.specs.Region.{regionsOf}
+use Rattle.sheet.specs.Kinds.{isLength, isKind, sizeOf, misplacedOf, endBefore, leastNumber, leastCode}
+use Rattle.sheet.specs.Reading.{linkOf, bodyOf, recordOf}
+use Rattle.sheet.specs.Walk.{none, toleranceIn, layoutOf, endedOf, onward, walkOf, verdictOf}
 use Rattle.sheet.specs.declared.records.Counts.{Counts}
 use Rattle.sheet.specs.declared.records.Reading.the-variants.{Record}
+use Rattle.sheet.specs.declared.walk.Layout.{Layout}
 use Rattle.sheet.specs.declared.walk.Verdict.{Verdict}
 use Rattle.sheet.specs.declared.walk.Verdict.the-variants.{Valid}
-use Rattle.sheet.proofs.Steps.{region-there, parameter-there, code-there}
-use Rattle.law.specs.Words.{Every, Some, joined, sumOf}
-use Rattle.law.specs.Sheet.{Region as Area, Parameter as Param, Item as Ident, Sheet, GoodRegion, GoodParameter, GoodItem, WellFormed, FiveLengths, InRegion, regionOctets, parameterOctets, itemOctets, written, sheetOctets, room}
-use Rattle.law.proofs.Written.{le2-back, le4-back}
+use Rattle.law.specs.Words.{Every, From, InARow, joined, sumOf, octet}
+use Rattle.law.specs.Sheet.{Item as Ident, Sheet, GoodRegion, GoodParameter, GoodItem, WellFormed, FiveLengths, regionOctets, parameterOctets, itemOctets, toleranceOctets, written, sheetOctets, room}
 use Rattle.law.proofs.Running.{Ends, walk-on, run-all, length-joined}
-use Rattle.law.proofs.Layouts.{layoutFor, counts, countsFor, asRegion, asParameter}
-
-area-back : (r : Area) (t : List ℕ) → GoodRegion r → regionFrom (regionOctets r ++ t) 0 ≡ asRegion r
-unfolding regionFrom
-area-back r t g = λ i. record { start = le4-back (r .start) (g .start) i; length = le4-back (r .length) (g .length) i; rights = r .rights }
-
-param-back : (rs : List Area) (p : Param) (t : List ℕ) → GoodParameter rs p → parameterFrom (parameterOctets p ++ t) 0 ≡ asParameter p
-unfolding parameterFrom
-param-back rs p t g = λ i. record { number = le2-back (p .number) (g .number) i; address = le4-back (p .address) (g .address) i; size = p .size }
-
-pub zeros-zero : (l : List ℕ) → Every (λ (x : ℕ). x ≡ 0) l → allZero l ≡ true
-unfolding allZero
-zeros-zero [] h = refl
-zeros-zero (x ∷ xs) h = rw (eq-eqb x 0 (h .0)) (zeros-zero xs (h .1))
-
--- a record of a kind in its place whose body is whole: what the checks before the body leave
-module _ (s : List ℕ) (kind size : ℕ) (body : List ℕ) (so : Counts) where
-  pub behind-link : length (kind ∷ body) < length s → misplacedOf false kind so ≡ false → kind ≤ 4 → sizeOf kind ≡ size
-      → size ≤ length (kind ∷ body) → recordOf s (kind ∷ body) so ≡ bodyOf kind s (kind ∷ body) so
-  unfolding recordOf
-  behind-link l m k e f =
-      let z : eqb (length (kind ∷ body)) 0 ≡ false = ne-eqb _ _ (λ (q : length (kind ∷ body) ≡ 0). let w : ⊥ = omega arith in w) in
-      let u : sizeOf kind ≤ length (kind ∷ body) = omega arith in
-      let d : eqb (length (kind ∷ body)) (length s) ≡ false = ne-eqb _ _ (λ (q : length (kind ∷ body) ≡ length s). let w : ⊥ = omega arith in w) in
-      pick-no _ _ z ∙ pick-ge _ _ k ∙ pick-no _ _ (ap (λ (b : Bool). misplacedOf b kind so) d ∙ m) ∙ pick-ge _ _ u
-
--- what is behind a place is shorter than the whole
-shorter : (s t : List ℕ) (at : ℕ) → drop at s ≡ t → 1 ≤ at → 1 ≤ length t → length t < length s
-shorter s t at e a l = let d : length t ≡ length s - at = sym (ap length e) ∙ length-drop at s in omega arith
-
-module _ (s : List ℕ) where
-  judged-area : (r : Area) (n m end : ℕ) → GoodRegion r → end ≤ r .start → n < 32 → m + r .length ≤ 65536
-      → judgedRegion (asRegion r) end (counts n 0 0 m) ≡ Record 10 (counts (n + 1) 0 0 (m + r .length))
-  unfolding judgedRegion
-  judged-area r n m end g l u w =
-      pick-ne _ _ (λ (z : r .length ≡ 0). let k : ⊥ = omega (arith, g .least) in k) ∙ pick-ge _ _ (g .ends) ∙ pick-ge _ _ (g .bits) ∙ pick-gt _ _ u ∙ pick-ge _ _ w ∙ pick-ge _ _ l
-
-  read-area : (r : Area) (t : List ℕ) (n m : ℕ) → drop (4 + 10 * n) s ≡ regionOctets r ++ t → GoodRegion r → endBefore s (counts n 0 0 m) ≤ r .start → n < 32
-      → m + r .length ≤ 65536 → recordOf s (regionOctets r ++ t) (counts n 0 0 m) ≡ Record 10 (counts (n + 1) 0 0 (m + r .length))
-  unfolding bodyOf regionOf sizeOf misplacedOf
-  read-area r t n m at g l u w =
-      behind-link s 2 10 _ (counts n 0 0 m) (shorter s (regionOctets r ++ t) (4 + 10 * n) at (omega arith) (omega arith)) refl (omega arith)
-      (pick-no _ _ refl ∙ pick-no _ _ refl ∙ pick-yes _ _ refl) (omega arith)
-      ∙ pick-no _ _ refl ∙ pick-no _ _ refl ∙ pick-yes _ _ refl
-      ∙ ap (λ (q : Region). judgedRegion q (endBefore s (counts n 0 0 m)) (counts n 0 0 m)) (area-back r t g)
-      ∙ judged-area r n m (endBefore s (counts n 0 0 m)) g l u w
-
-  pub area-at : (r : Area) (t : List ℕ) (n : ℕ) → drop (4 + 10 * n) s ≡ regionOctets r ++ t → GoodRegion r → regionAt s n ≡ asRegion r
-  area-at r t n at g = sym (region-there s (4 + 10 * n)) ∙ ap (λ (l : List ℕ). regionFrom l 0) at ∙ area-back r t g
-
-  next-area : (r : Area) (t : List ℕ) (n m : ℕ) → drop (4 + 10 * n) s ≡ regionOctets r ++ t → GoodRegion r → endBefore s (counts (n + 1) 0 0 m) ≡ r .start + r .length
-  unfolding endBefore
-  next-area r t n m at g =
-      pick-ne _ _ (λ (z : n + 1 ≡ 0). let k : ⊥ = omega arith in k)
-      ∙ ap (λ (i : ℕ). regionAt s i .start + regionAt s i .length) (let e : n + 1 - 1 ≡ n = omega arith in e)
-      ∙ ap (λ (q : Region). q .start + q .length) (area-at r t n at g)
-
-  -- the regions of the writing are the sheet's
-  pub regions-listed : (rs : List Area) (t : List ℕ) (n : ℕ) → drop (4 + 10 * n) s ≡ joined regionOctets rs ++ t → Every GoodRegion rs
-      → listed (regionAt s) n (length rs) ≡ map asRegion rs
-  unfolding listed
-  regions-listed [] t n at g = refl
-  regions-listed (r ∷ rs) t n at g =
-      let there : drop (4 + 10 * suc n) s ≡ joined regionOctets rs ++ t =
-      ap (λ (i : ℕ). drop i s) (let e : 4 + 10 * suc n ≡ 4 + 10 * n + 10 = omega arith in e) ∙ sym (drop-drop 10 (4 + 10 * n) s) ∙ ap (drop 10) at in
-      ap₂ _∷_ (area-at r (joined regionOctets rs ++ t) n at (g .0)) (regions-listed rs t (suc n) there (g .1))
-
-  -- an address that the paper finds in a region, the search finds
-  has-grants : (rs : List Area) (a : ℕ) → Some (InRegion a) rs → grantsOf (map asRegion rs) Mapped a ≡ true
-  unfolding grantsOf givesOf
-  has-grants [] a h = absurd h
-  has-grants (r ∷ rs) a h =
-      ⊎-elim
-      (λ (k : holdsOf (asRegion r) a ≡ true). pick-yes _ _ k)
-      (λ (k : holdsOf (asRegion r) a ≡ false).
-      ⊎-elim
-      (λ (j : InRegion a r). pick-yes _ _ (bounds-hold (asRegion r) a (j .0) (j .1)))
-      (λ (j : Some (InRegion a) rs). pick-no _ _ k ∙ has-grants rs a j)
-      h)
-      (decided (holdsOf (asRegion r) a))
-
-  module _ (rs : List Area) (m : ℕ) (same : regionsOf s (length rs) ≡ map asRegion rs) where
-    abbrev paramsRead : ℕ → Counts
-    paramsRead n = counts (length rs) n 0 m
-
-    span-good : (p : Param) → GoodParameter rs p → spanHas (regionsOf s (length rs)) Mapped (p .address) (p .size) ≡ true
-    span-good p g =
-        eq-eqb _ _ (ap (λ (l : List Region). beforeOf l Mapped (p .address) (p .size)) same
-        ∙ before-all (map asRegion rs) Mapped (p .address) (p .size) (λ x l u. has-grants rs x (g .spans x l u)))
-
-    judged-param : (p : Param) (n least : ℕ) (mapped : Bool) → GoodParameter rs p → mapped ≡ true → least ≤ p .number → n < 64
-        → judgedParameter (asParameter p) least mapped (paramsRead n) ≡ Record 8 (paramsRead (n + 1))
-    unfolding judgedParameter
-    judged-param p n least mapped g e l u =
-        pick-ne _ _ (λ (z : p .size ≡ 0). let k : ⊥ = omega (arith, g .least) in k) ∙ pick-ge _ _ (g .most) ∙ pick-gt _ _ u ∙ pick-ge _ _ l
-        ∙ pick-no _ _ (ap not e)
-
-    read-param : (p : Param) (t : List ℕ) (n : ℕ) → drop (4 + 10 * length rs + 8 * n) s ≡ parameterOctets p ++ t → GoodParameter rs p
-        → leastNumber s (paramsRead n) ≤ p .number → n < 64 → recordOf s (parameterOctets p ++ t) (paramsRead n) ≡ Record 8 (paramsRead (n + 1))
-    unfolding bodyOf parameterOf sizeOf misplacedOf
-    read-param p t n at g l u =
-        behind-link s 3 8 _ (paramsRead n) (shorter s (parameterOctets p ++ t) (4 + 10 * length rs + 8 * n) at (omega arith) (omega arith)) refl (omega arith)
-        (pick-no _ _ refl ∙ pick-no _ _ refl ∙ pick-no _ _ refl ∙ pick-yes _ _ refl) (omega arith)
-        ∙ pick-no _ _ refl ∙ pick-no _ _ refl ∙ pick-no _ _ refl ∙ pick-yes _ _ refl
-        ∙ ap (λ (q : Parameter). judgedParameter q (leastNumber s (paramsRead n)) (spanHas (regionsOf s (length rs)) Mapped (q .address) (q .size)) (paramsRead n))
-        (param-back rs p t g)
-        ∙ judged-param p n (leastNumber s (paramsRead n)) (spanHas (regionsOf s (length rs)) Mapped (p .address) (p .size)) g (span-good p g) l u
-
-    pub param-at : (p : Param) (t : List ℕ) (n : ℕ) → drop (4 + 10 * length rs + 8 * n) s ≡ parameterOctets p ++ t → GoodParameter rs p
-        → parameterAt s (length rs) n ≡ asParameter p
-    param-at p t n at g = sym (parameter-there s (4 + 10 * length rs + 8 * n)) ∙ ap (λ (l : List ℕ). parameterFrom l 0) at ∙ param-back rs p t g
-
-    next-param : (p : Param) (t : List ℕ) (n : ℕ) → drop (4 + 10 * length rs + 8 * n) s ≡ parameterOctets p ++ t → GoodParameter rs p
-        → leastNumber s (paramsRead (n + 1)) ≡ suc (p .number)
-    unfolding leastNumber
-    next-param p t n at g =
-        pick-ne _ _ (λ (z : n + 1 ≡ 0). let k : ⊥ = omega arith in k)
-        ∙ ap (λ (i : ℕ). parameterAt s (length rs) i .number + 1) (let e : n + 1 - 1 ≡ n = omega arith in e)
-        ∙ ap (λ (q : Parameter). q .number + 1) (param-at p t n at g) ∙ add-one (p .number)
-
-  module _ (r p m : ℕ) where
-    abbrev identsRead : ℕ → Counts
-    identsRead n = counts r p n m
-
-    tail-zero : (i : Ident) (t : List ℕ) → GoodItem i → allZero (tailOf (itemOctets i ++ t)) ≡ true
-    tail-zero i t g =
-        let z = i .length in
-        let e₁ : drop (3 + z) (itemOctets i ++ t) ≡ drop z (i .octets) ++ t =
-        sym (drop-drop z 3 (itemOctets i ++ t)) ∙ drop-append-le z (i .octets) t (omega (arith, g .most, g .all32)) in
-        let e₂ : take (32 - z) (drop z (i .octets) ++ t) ≡ drop z (i .octets) =
-        take-at (drop z (i .octets)) t (32 - z) (length-drop z (i .octets) ∙ ap (λ (k : ℕ). k - z) (g .all32)) in
-        ap allZero (ap (take (32 - z)) e₁ ∙ e₂) ∙ zeros-zero (drop z (i .octets)) (g .zeros)
-
-    judged-ident : (i : Item) (n least : ℕ) (tail : Bool) → 1 ≤ i .length → i .length ≤ 32 → tail ≡ true → least ≤ i .code → n < 32
-        → judgedItem i tail least (identsRead n) ≡ Record 35 (identsRead (n + 1))
-    unfolding judgedItem
-    judged-ident i n least tail some most e l u =
-        pick-ne _ _ (λ (z : i .length ≡ 0). let k : ⊥ = omega arith in k) ∙ pick-ge _ _ most ∙ pick-no _ _ (ap not e) ∙ pick-gt _ _ u ∙ pick-ge _ _ l
-
-    read-ident : (i : Ident) (t : List ℕ) (n : ℕ) → drop (4 + 10 * r + 8 * p + 35 * n) s ≡ itemOctets i ++ t → GoodItem i
-        → leastCode s (identsRead n) ≤ i .code → n < 32 → recordOf s (itemOctets i ++ t) (identsRead n) ≡ Record 35 (identsRead (n + 1))
-    unfolding bodyOf itemOf itemFrom sizeOf misplacedOf
-    read-ident i t n at g l u =
-        let a = length-append (i .octets) t in
-        let o = g .all32 in
-        behind-link s 4 35 _ (identsRead n) (shorter s (itemOctets i ++ t) (4 + 10 * r + 8 * p + 35 * n) at (omega arith) (omega arith)) refl (omega arith)
-        (pick-no _ _ refl ∙ pick-no _ _ refl ∙ pick-no _ _ refl ∙ pick-no _ _ refl) (omega arith)
-        ∙ pick-no _ _ refl ∙ pick-no _ _ refl ∙ pick-no _ _ refl ∙ pick-no _ _ refl
-        ∙ judged-ident (itemFrom (itemOctets i ++ t) 0) n (leastCode s (identsRead n)) (allZero (tailOf (itemOctets i ++ t))) (g .least) (g .most) (tail-zero i t g) l u
-
-    next-ident : (i : Ident) (t : List ℕ) (n : ℕ) → drop (4 + 10 * r + 8 * p + 35 * n) s ≡ itemOctets i ++ t → GoodItem i
-        → leastCode s (identsRead (n + 1)) ≡ suc (i .code)
-    unfolding leastCode itemFrom
-    next-ident i t n at g =
-        pick-ne _ _ (λ (z : n + 1 ≡ 0). let k : ⊥ = omega arith in k)
-        ∙ ap (λ (k : ℕ). itemAt s r p k .code + 1) (let e : n + 1 - 1 ≡ n = omega arith in e)
-        ∙ ap (λ (c : ℕ). c + 1) (sym (code-there s (4 + 10 * r + 8 * p + 35 * n)) ∙ ap (λ (l : List ℕ). getD l 1 0) at) ∙ add-one (i .code)
+use Rattle.law.proofs.Readings.{behind-link, regions-listed, read-area, next-area, read-param, next-param, read-ident, next-ident, read-tolerance}
+use Rattle.law.proofs.Layouts.{layoutFor, full, counts, countsFor, asRegion}
 
 -- the end record, and what comes before the first record
 end-read : (s : List ℕ) (so : Counts) → 1 < length s → Ends s (Valid (layoutOf s so)) (0 ∷ []) so
-unfolding walkOf onward recordOf bodyOf sizeOf misplacedOf endedOf
+unfolding walkOf onward recordOf bodyOf sizeOf isKind misplacedOf endedOf
 end-read s so l zero h = absurd (let w : ⊥ = omega arith in w)
 end-read s so l (suc f) h =
     let e : recordOf s (0 ∷ []) so ≡ Record 1 so =
-    behind-link s 0 1 [] so l refl (omega arith) (pick-yes _ _ refl) (omega arith) ∙ pick-yes _ _ refl in
+    behind-link s 0 1 [] so l refl refl (pick-yes _ _ refl) (omega arith) ∙ pick-yes _ _ refl in
     rw e (pick-yes _ _ refl ∙ pick-no _ _ refl)
 
 pub five : (l : ℕ) → FiveLengths l → isLength l ≡ true
@@ -209,7 +41,7 @@ five l h =
     ⊎-elim (λ (e : l ≡ 8). rw e) (⊎-elim (λ (e : l ≡ 16). rw e) (⊎-elim (λ (e : l ≡ 32). rw e) (⊎-elim (λ (e : l ≡ 48). rw e) (λ (e : l ≡ 64). rw e)))) h
 
 link-read : (l v p : ℕ) (t : List ℕ) → FiveLengths l → recordOf (1 ∷ l ∷ v ∷ p ∷ t) (1 ∷ l ∷ v ∷ p ∷ t) none ≡ Record 4 none
-unfolding recordOf bodyOf linkOf sizeOf misplacedOf
+unfolding recordOf bodyOf linkOf sizeOf isKind misplacedOf
 link-read l v p t h =
     let s : List ℕ = 1 ∷ l ∷ v ∷ p ∷ t in
     let d : eqb (length s) (length s) ≡ true = eq-eqb (length s) (length s) refl in
@@ -242,6 +74,40 @@ none-coded s r p m = pick-yes _ _ refl
 pub ident-long : (i : Ident) → GoodItem i → length (itemOctets i) ≡ 35
 ident-long i g = ap (λ (n : ℕ). suc (suc (suc n))) (g .all32)
 
+-- one number beside another has no order here
+any-row : (xs : List ℕ) → InARow (λ (y z : ℕ). 0 ≤ 0) xs
+any-row [] = tt
+any-row (x ∷ xs) = from x xs
+  where
+    from : (x : ℕ) (xs : List ℕ) → From (λ (y z : ℕ). 0 ≤ 0) x xs
+    from x [] = tt
+    from x (y ∷ ys) = (omega arith, from y ys)
+
+-- the octet behind the items is what the sheet allows
+pub tolerance-there : (s ts t : List ℕ) (r p k m : ℕ) → drop (4 + 10 * r + 8 * p + 35 * k) s ≡ joined toleranceOctets ts ++ t
+    → toleranceIn s (full r p k (length ts) m) ≡ octet ts 0
+unfolding toleranceIn
+tolerance-there s [] t r p k m at = pick-yes _ _ refl
+tolerance-there s (x ∷ xs) t r p k m at =
+    let b = 4 + 10 * r + 8 * p + 35 * k in
+    pick-ne _ _ (λ (z : suc (length xs) ≡ 0). let w : ⊥ = omega arith in w)
+    ∙ ap (λ (i : ℕ). getD s i 0) (let e : 5 + 10 * r + 8 * p + 35 * k ≡ b + 1 = omega arith in e)
+    ∙ sym (getD-drop b s 1 0) ∙ ap (λ (l : List ℕ). getD l 1 0) at
+
+-- what stands behind regions, parameters and items of a written sheet
+pub behind-items : (h : Sheet) → WellFormed h → (rest : List ℕ)
+    → drop (4 + 10 * length (h .regions) + 8 * length (h .parameters) + 35 * length (h .items)) (written h rest) ≡ joined toleranceOctets (h .tolerances) ++ rest
+behind-items h w rest =
+    let s = written h rest in
+    let r = length (h .regions) in
+    let p = length (h .parameters) in
+    let tt : List ℕ = joined toleranceOctets (h .tolerances) ++ rest in
+    let ti : List ℕ = joined itemOctets (h .items) ++ tt in
+    let tp : List ℕ = joined parameterOctets (h .parameters) ++ ti in
+    behind-all itemOctets GoodItem 35 ident-long s (4 + 10 * r + 8 * p) (h .items) tt (w .items)
+    (behind-all parameterOctets (GoodParameter (h .regions)) 8 (λ x g. refl) s (4 + 10 * r) (h .parameters) ti (w .parameters)
+    (behind-all regionOctets GoodRegion 10 (λ x g. refl) s 4 (h .regions) tp (w .regions) refl))
+
 -- the walk over the writing of a well-formed sheet comes to what stands behind it
 pub come-behind : (h : Sheet) → WellFormed h → (rest : List ℕ) (v : Verdict) → length (written h rest) ≤ 2048
     → Ends (written h rest) v rest (countsFor h) → verdictOf (written h rest) ≡ v
@@ -252,19 +118,27 @@ come-behind h w rest v short go =
     let p = length (h .parameters) in
     let k = length (h .items) in
     let m = room (h .regions) in
-    let ti : List ℕ = joined itemOctets (h .items) ++ rest in
+    let tt : List ℕ = joined toleranceOctets (h .tolerances) ++ rest in
+    let ti : List ℕ = joined itemOctets (h .items) ++ tt in
     let tp : List ℕ = joined parameterOctets (h .parameters) ++ ti in
     let ta : List ℕ = joined regionOctets (h .regions) ++ tp in
     let at-p : drop (4 + 10 * r) s ≡ tp = behind-all regionOctets GoodRegion 10 (λ x g. refl) s 4 (h .regions) tp (w .regions) refl in
     let at-k : drop (4 + 10 * r + 8 * p) s ≡ ti =
     behind-all parameterOctets (GoodParameter (h .regions)) 8 (λ x g. refl) s (4 + 10 * r) (h .parameters) ti (w .parameters) at-p in
+    let at-t : drop (4 + 10 * r + 8 * p + 35 * k) s ≡ tt = behind-items h w rest in
     let same : regionsOf s r ≡ map asRegion (h .regions) = regions-listed s (h .regions) tp 0 refl (w .regions) in
+    let go-tolerances : Ends s v tt (counts r p k m) =
+    run-all s v toleranceOctets (λ n. n ≤ 3) (λ n. 0) (λ n. 0) (λ n. 0) (4 + 10 * r + 8 * p + 35 * k) 2 1 (sumOf (λ n. 0) (h .tolerances))
+    (λ n z. full r p k n m) (λ n z. 0) (omega arith) (λ x g. refl)
+    (λ x t (e : 6 ≡ 0). let z : ⊥ = omega arith in z)
+    (λ x t n z at g l u q. read-tolerance s r p k m x t n at g u) (λ x t n z at g. refl)
+    (h .tolerances) rest at-t (w .tolerances) refl (any-row (h .tolerances)) (w .once) (le-refl _) go in
     let go-items : Ends s v ti (counts r p 0 m) =
     run-all s v itemOctets GoodItem (λ i. i .code) (λ i. suc (i .code)) (λ i. 0) (4 + 10 * r + 8 * p) 35 32 (sumOf (λ i. 0) (h .items))
     (λ n z. counts r p n m) (λ n z. leastCode s (counts r p n m)) (omega arith) ident-long
     (λ i t (e : 4 ≡ 0). let z : ⊥ = omega arith in z)
     (λ i t n z at g l u q. read-ident s r p m i t n at g l u) (λ i t n z at g. next-ident s r p m i t n at g)
-    (h .items) rest at-k (w .items) (none-coded s r p m) (w .codes-rise) (w .few-items) (le-refl _) go in
+    (h .items) tt at-k (w .items) (none-coded s r p m) (w .codes-rise) (w .few-items) (le-refl _) go-tolerances in
     let go-parameters : Ends s v tp (counts r 0 0 m) =
     run-all s v parameterOctets (GoodParameter (h .regions)) (λ q. q .number) (λ q. suc (q .number)) (λ q. 0) (4 + 10 * r) 8 64 (sumOf (λ q. 0) (h .parameters))
     (λ n z. counts r n 0 m) (λ n z. leastNumber s (counts r n 0 m)) (omega arith) (λ x g. refl)
@@ -284,11 +158,26 @@ come-behind h w rest v short go =
 pub complete : (h : Sheet) → WellFormed h → verdictOf (sheetOctets h) ≡ Valid (layoutFor h)
 unfolding layoutOf
 complete h w =
+    let s = sheetOctets h in
     let end : List ℕ = 0 ∷ [] in
-    let ti : List ℕ = joined itemOctets (h .items) ++ end in
+    let tt : List ℕ = joined toleranceOctets (h .tolerances) ++ end in
+    let ti : List ℕ = joined itemOctets (h .items) ++ tt in
     let tp : List ℕ = joined parameterOctets (h .parameters) ++ ti in
     let la = length-joined regionOctets GoodRegion 10 (λ x g. refl) (h .regions) tp (w .regions) in
     let lp = length-joined parameterOctets (GoodParameter (h .regions)) 8 (λ x g. refl) (h .parameters) ti (w .parameters) in
-    let lk = length-joined itemOctets GoodItem 35 ident-long (h .items) end (w .items) in
-    come-behind h w end (Valid (layoutFor h)) (omega (arith, la, lp, lk, w .few-regions .0, w .few-parameters, w .few-items))
-    (end-read (sheetOctets h) (countsFor h) (omega arith))
+    let lk = length-joined itemOctets GoodItem 35 ident-long (h .items) tt (w .items) in
+    let lt = length-joined toleranceOctets (λ n. n ≤ 3) 2 (λ x g. refl) (h .tolerances) end (w .tolerances) in
+    let t = tolerance-there s (h .tolerances) end (length (h .regions)) (length (h .parameters)) (length (h .items)) (room (h .regions)) (behind-items h w end) in
+    let same : layoutOf s (countsFor h) ≡ layoutFor h = λ i. record {
+      l = h .l;
+      version = h .version;
+      profile = h .profile;
+      regions = length (h .regions);
+      parameters = length (h .parameters);
+      items = length (h .items);
+      tolerances = length (h .tolerances);
+      tolerance = t i;
+      memory = room (h .regions);
+    } in
+    come-behind h w end (Valid (layoutFor h)) (omega (arith, la, lp, lk, lt, w .few-regions .0, w .few-parameters, w .few-items, w .once))
+    (subst (λ (lay : Layout). Ends s (Valid lay) end (countsFor h)) same (end-read s (countsFor h) (omega arith)))

@@ -10,7 +10,7 @@ use Rattle.octets.proofs.Pick.{pick-yes, pick-lt, pick-ge}
 use Rattle.regions.specs.Region.{regionAt, regionsOf, listed}
 use Rattle.sheet.specs.Entries.{parameterAt}
 use Rattle.sheet.specs.Faults.{numberOf}
-use Rattle.sheet.specs.Kinds.{sizeOf, misplacedOf}
+use Rattle.sheet.specs.Kinds.{isKind, sizeOf, misplacedOf}
 use Rattle.sheet.specs.Reading.{bodyOf, recordOf}
 use Rattle.sheet.specs.Walk.{none, placeOf, endedOf, onward, walkOf, verdictOf}
 use Rattle.sheet.specs.declared.records.Counts.{Counts}
@@ -20,10 +20,11 @@ use Rattle.sheet.specs.declared.records.Reading.the-variants.{Record, Bad}
 use Rattle.sheet.specs.declared.walk.Verdict.{Verdict}
 use Rattle.sheet.specs.declared.walk.Verdict.the-variants.{Faulty}
 use Rattle.law.specs.Words.{Every, joined}
-use Rattle.law.specs.Sheet.{Sheet, GoodRegion, GoodParameter, GoodItem, WellFormed, IsOctet, regionOctets, parameterOctets, itemOctets, written, room}
+use Rattle.law.specs.Sheet.{Sheet, GoodRegion, GoodParameter, GoodItem, WellFormed, IsOctet, regionOctets, parameterOctets, itemOctets, toleranceOctets, written, room}
 use Rattle.law.specs.Faults.{Sofar, nothing, records, before, GoodSofar, AfterEnd, RecordFault, FaultAt, FirstFault}
 use Rattle.law.proofs.Checks.{same-number}
-use Rattle.law.proofs.Complete.{come-behind, area-at, param-at, regions-listed, behind-all, behind-link, ident-long}
+use Rattle.law.proofs.Readings.{area-at, param-at, regions-listed, behind-link}
+use Rattle.law.proofs.Complete.{come-behind, behind-all, behind-items, ident-long}
 use Rattle.law.proofs.Front.{readSheet}
 use Rattle.law.proofs.Place.{first-fault, later-fault, ident-same}
 use Rattle.law.proofs.Running.{Ends}
@@ -58,7 +59,8 @@ read-back h rest w =
     let s = written h rest in
     let r = length (h .regions) in
     let p = length (h .parameters) in
-    let ti : List ℕ = joined itemOctets (h .items) ++ rest in
+    let tt : List ℕ = joined toleranceOctets (h .tolerances) ++ rest in
+    let ti : List ℕ = joined itemOctets (h .items) ++ tt in
     let tp : List ℕ = joined parameterOctets (h .parameters) ++ ti in
     let at-p : drop (4 + 10 * r) s ≡ tp = behind-all regionOctets GoodRegion 10 (λ x g. refl) s 4 (h .regions) tp (w .regions) refl in
     let at-k : drop (4 + 10 * r + 8 * p) s ≡ ti =
@@ -68,8 +70,11 @@ read-back h rest w =
     let b = all-back parameterOctets (λ (j : ℕ). asParam (parameterAt s r j)) (GoodParameter (h .regions)) 8 (4 + 10 * r) s (λ x g. refl)
     (λ x t n at g. ap asParam (param-at s (h .regions) (room (h .regions)) same x t n at g)) (h .parameters) ti at-p (w .parameters) in
     let c = all-back itemOctets (λ (k : ℕ). identFrom s (4 + 10 * r + 8 * p + 35 * k)) GoodItem 35 (4 + 10 * r + 8 * p) s ident-long
-    (λ x t n at g. sym (ident-there s (4 + 10 * r + 8 * p + 35 * n)) ∙ ap (λ (l : List ℕ). identFrom l 0) at ∙ ident-same x t (g .all32)) (h .items) rest at-k (w .items) in
-    λ i. record { l = h .l; version = h .version; profile = h .profile; regions = a i; parameters = b i; items = c i }
+    (λ x t n at g. sym (ident-there s (4 + 10 * r + 8 * p + 35 * n)) ∙ ap (λ (l : List ℕ). identFrom l 0) at ∙ ident-same x t (g .all32)) (h .items) tt at-k (w .items) in
+    let k = length (h .items) in
+    let d = all-back toleranceOctets (λ (n : ℕ). getD s (4 + 10 * r + 8 * p + 35 * k + 2 * n + 1) 0) (λ n. n ≤ 3) 2 (4 + 10 * r + 8 * p + 35 * k) s (λ x g. refl)
+    (λ x t n at g. sym (getD-drop (4 + 10 * r + 8 * p + 35 * k + 2 * n) s 1 0) ∙ ap (λ (l : List ℕ). getD l 1 0) at) (h .tolerances) rest (behind-items h w rest) (w .tolerances) in
+    λ i. record { l = h .l; version = h .version; profile = h .profile; regions = a i; parameters = b i; items = c i; tolerances = d i }
 
 bad-ends : (s rest : List ℕ) (so : Counts) (f : Fault) → recordOf s rest so ≡ Bad f → Ends s (Faulty f (placeOf s rest)) rest so
 unfolding walkOf onward
@@ -77,11 +82,11 @@ bad-ends s rest so f e zero h = absurd (let k : ⊥ = omega arith in k)
 bad-ends s rest so f e (suc n) h = rw e
 
 after-ends : (s body : List ℕ) (so : Counts) → length (0 ∷ body) < length s → 1 ≤ length body → Ends s (Faulty Misplaced (placeOf s (0 ∷ body) + 1)) (0 ∷ body) so
-unfolding walkOf onward bodyOf sizeOf misplacedOf endedOf
+unfolding walkOf onward bodyOf sizeOf isKind misplacedOf endedOf
 after-ends s body so l u zero h = absurd (let k : ⊥ = omega arith in k)
 after-ends s body so l u (suc n) h =
     let e : recordOf s (0 ∷ body) so ≡ Record 1 so =
-    behind-link s 0 1 body so l refl (omega arith) (pick-yes _ _ refl) (omega arith) ∙ pick-yes _ _ refl in
+    behind-link s 0 1 body so l refl refl (pick-yes _ _ refl) (omega arith) ∙ pick-yes _ _ refl in
     let some : 1 < length (0 ∷ body) = omega arith in
     rw e (pick-yes _ _ refl ∙ pick-lt _ _ some)
 
@@ -96,14 +101,17 @@ octets-behind (x ∷ xs) t o = octets-behind xs t (o .1)
 
 written-octets : (h : Sheet) (rest : List ℕ) → Every IsOctet (written h rest) → Every IsOctet rest
 written-octets h rest o =
-    octets-behind (joined itemOctets (h .items)) rest (octets-behind (joined parameterOctets (h .parameters)) _ (octets-behind (joined regionOctets (h .regions)) _ (o .1 .1 .1 .1)))
+    octets-behind (joined toleranceOctets (h .tolerances)) rest (octets-behind (joined itemOctets (h .items)) _ (octets-behind (joined parameterOctets (h .parameters)) _ (octets-behind (joined regionOctets (h .regions)) _ (o .1 .1 .1 .1))))
 
 written-longer : (h : Sheet) (rest : List ℕ) → length rest < length (written h rest)
 written-longer h rest =
-    let a = length-append (joined itemOctets (h .items)) rest in
-    let b = length-append (joined parameterOctets (h .parameters)) (joined itemOctets (h .items) ++ rest) in
-    let c = length-append (joined regionOctets (h .regions)) (joined parameterOctets (h .parameters) ++ (joined itemOctets (h .items) ++ rest)) in
-    omega (arith, a, b, c)
+    let tt : List ℕ = joined toleranceOctets (h .tolerances) ++ rest in
+    let ti : List ℕ = joined itemOctets (h .items) ++ tt in
+    let d = length-append (joined toleranceOctets (h .tolerances)) rest in
+    let a = length-append (joined itemOctets (h .items)) tt in
+    let b = length-append (joined parameterOctets (h .parameters)) ti in
+    let c = length-append (joined regionOctets (h .regions)) (joined parameterOctets (h .parameters) ++ ti) in
+    omega (arith, a, b, c, d)
 
 exact-at : (x : Sofar) (rest : List ℕ) (f : Fault) (place : ℕ) → GoodSofar x → Every IsOctet (before x rest) → length (before x rest) ≤ 2048
     → ((place + length rest ≡ length (before x rest)) × RecordFault x rest (numberOf f))

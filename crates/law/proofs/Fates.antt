@@ -3,10 +3,10 @@ use mathlib.Core.Bool.{Bool, true, false, not, _&&_, _||_}
 use mathlib.Core.Logic.{⊎-elim}
 use mathlib.Core.Path.{_≡_, refl, sym, ap, ap₂, subst, _∙_}
 use mathlib.Core.List.{List, [], _∷_}
-use Prim.Native.Nat.{ℕ, zero, suc, _+_, _/_, _%_, _≤_}
+use Prim.Native.Nat.{ℕ, zero, suc, _+_, _/_, _%_, _≤_, _<_}
 use native.Mathlib.Omega.{arith}
-use borrow.Author.Tests.{ne-eqb}
-use lib.Dec.{eqb}
+use borrow.Author.Tests.{ne-eqb, ltb-true}
+use lib.Dec.{eqb, ltb}
 use lib.ListN.{length}
 use Rattle.octets.specs.Pick.{pick}
 use Rattle.octets.proofs.Cases.{eq-or-ne}
@@ -16,18 +16,18 @@ use Rattle.frame.proofs.Kept.{quiet-keeps}
 use Rattle.frame.proofs.Named.{named, command-named, Tells, whole-at}
 use Rattle.law.proofs.Layouts.{layoutFor}
 use Rattle.law.specs.Words.{when, oneOf, Piece, laid}
-use Rattle.law.specs.Sheet.{Sheet}
-use Rattle.law.specs.State.{link}
+use Rattle.law.specs.Sheet.{Sheet, allows as most}
+use Rattle.law.specs.State.{link, failures}
 use Rattle.law.specs.Memory.{readable, writable}
 use Rattle.law.specs.Table.{check, Row, table}
-use Rattle.law.specs.Exchange.{Fate, fate, code, mn, sn, refused, checked, judged, lost as lostCycle, fateOf}
-use Rattle.link.specs.Steps.{followsOf, lost, synced, dropped}
+use Rattle.law.specs.Exchange.{Fate, fate, code, mn, sn, refused, checked, judged, lost as lostCycle, tolerated as toleratedCycle, passing, fateOf}
+use Rattle.link.specs.Steps.{followsOf, lost, tolerated, synced, dropped}
 use Rattle.link.specs.Stored.{octetsOf}
 use Rattle.link.specs.declared.state.LinkState.{LinkState}
 use Rattle.link.proofs.Facts.{Facts}
 use Rattle.machine.specs.Codes.{isKnown, isAllowed}
 use Rattle.machine.specs.Judging.{dataOf, judgeOf}
-use Rattle.machine.specs.Outcomes.{counting, comesTo, finished, outcomeOf}
+use Rattle.machine.specs.Outcomes.{counting, comesTo, finished, missedOf, outcomeOf}
 use Rattle.machine.specs.Spans.{rightOf}
 use Rattle.octets.proofs.Pick.{pick-yes, pick-no}
 use Rattle.regions.specs.Region.{givesOf}
@@ -39,7 +39,7 @@ use Rattle.machine.specs.declared.words.Field.the-variants.{Whole}
 use Rattle.machine.specs.declared.words.Judgement.{Judgement}
 use Rattle.machine.specs.declared.words.Judgement.the-variants.{Refused, Accepted}
 use Rattle.law.proofs.Laid.{when-no}
-use Rattle.law.proofs.Goes.{in-links, Goes, goes-dropped, goes-synced, goes-lost}
+use Rattle.law.proofs.Goes.{in-links, Goes, goes-dropped, goes-synced, goes-lost, goes-tolerated}
 use Rattle.law.proofs.World.{nth, World}
 use Rattle.law.proofs.Rows.{Same, J, refusing, via, step, quiet, kept, unmoved, alarms-row, clear-row, param-row, connect-row, mem-row, item-row}
 
@@ -72,7 +72,7 @@ unfolding isKnown
 not-known n z0 z1 z2 z3 z4 z5 z6 z7 z8 z9 z10 =
     ap₂ _||_ (ap₂ _||_ (ap₂ _||_ (ap₂ _||_ (ap₂ _||_ (ap₂ _||_ (ap₂ _||_ (ap₂ _||_ (ap₂ _||_ (ap₂ _||_ (ne-eqb n 0x00 z0) (ne-eqb n 0x01 z1)) (ne-eqb n 0x02 z2)) (ne-eqb n 0x03 z3)) (ne-eqb n 0x05 z4)) (ne-eqb n 0x06 z5)) (ne-eqb n 0x0D z6)) (ne-eqb n 0x0E z7)) (ne-eqb n 0x0F z8)) (ne-eqb n 0x1D z9)) (ne-eqb n 0x1E z10)
 
-module _ (h : Sheet) (sheet : List ℕ) (st : LinkState) (m c : List ℕ) (facts : Facts (h .l) st) (on : st .link ≡ 0 → ⊥) (world : World h sheet m) (asked : length c ≡ h .l) where
+module _ (h : Sheet) (sheet : List ℕ) (st : LinkState) (m c : List ℕ) (facts : Facts (h .l) (most h) st) (on : st .link ≡ 0 → ⊥) (world : World h sheet m) (asked : length c ≡ h .l) where
   abbrev s : List ℕ
   s = octetsOf st
 
@@ -114,9 +114,9 @@ module _ (h : Sheet) (sheet : List ℕ) (st : LinkState) (m c : List ℕ) (facts
   write-is x = write-at (eqb (st .link) 3) x
 
   -- which link allows which code
-  allows : (k : ℕ) (ns : List ℕ) → isAllowed 1 k ≡ oneOf 1 ns → isAllowed 2 k ≡ oneOf 2 ns → isAllowed 3 k ≡ oneOf 3 ns → isAllowed (st .link) k ≡ oneOf (link s) ns
+  allowing : (k : ℕ) (ns : List ℕ) → isAllowed 1 k ≡ oneOf 1 ns → isAllowed 2 k ≡ oneOf 2 ns → isAllowed 3 k ≡ oneOf 3 ns → isAllowed (st .link) k ≡ oneOf (link s) ns
   unfolding octetsOf
-  allows k ns a b d = in-links (λ n. isAllowed n k ≡ oneOf n ns) a b d (st .link) (facts .link) on
+  allowing k ns a b d = in-links (λ n. isAllowed n k ≡ oneOf n ns) a b d (st .link) (facts .link) on
 
   unknown-code : (n : ℕ) → (n ≡ 0x00 → ⊥) → (n ≡ 0x01 → ⊥) → (n ≡ 0x02 → ⊥) → (n ≡ 0x03 → ⊥) → (n ≡ 0x05 → ⊥) → (n ≡ 0x06 → ⊥) → (n ≡ 0x0D → ⊥) → (n ≡ 0x0E → ⊥) → (n ≡ 0x0F → ⊥) → (n ≡ 0x1D → ⊥) → (n ≡ 0x1E → ⊥) → Is (judgeOf sheet (layoutFor h) st (named n c)) (judged s n (table h s m c))
   unfolding judgeOf judged
@@ -130,25 +130,36 @@ module _ (h : Sheet) (sheet : List ℕ) (st : LinkState) (m c : List ℕ) (facts
   unfolding isKnown isAllowed dataOf judged pick when checked
   judge-same =
       by-code (λ n. Is (judgeOf sheet (layoutFor h) st (named n c)) (judged s n (table h s m c)))
-      (known 0x00 _ (nth (table h s m c) 0) refl (allows 0x00 (1 ∷ 2 ∷ 3 ∷ []) refl refl refl) refl refl (λ a. quiet-here st [] (kept h sheet st m c facts on world asked)))
-      (known 0x01 _ (nth (table h s m c) 1) refl (allows 0x01 (2 ∷ 3 ∷ []) refl refl refl) refl refl (λ a. param-row h sheet st m c facts on world asked 0x01 false readable read-is 0 [] []))
-      (known 0x02 _ (nth (table h s m c) 2) refl (allows 0x02 (2 ∷ 3 ∷ []) refl refl refl) refl refl (λ a. param-row h sheet st m c facts on world asked 0x02 true (writable (link s)) write-is 0 [] []))
-      (known 0x03 _ (nth (table h s m c) 3) refl (allows 0x03 (2 ∷ 3 ∷ []) refl refl refl) refl refl (λ a. item-row h sheet st m c facts on world asked 0x03))
-      (known 0x05 _ (nth (table h s m c) 4) refl (allows 0x05 (2 ∷ 3 ∷ []) refl refl refl) refl refl (λ a. alarms-row h sheet st m c facts on world asked 0x05))
-      (known 0x06 _ (nth (table h s m c) 5) refl (allows 0x06 (2 ∷ 3 ∷ []) refl refl refl) refl refl (λ a. clear-row h sheet st m c facts on world asked 0x06))
-      (known 0x0D _ (nth (table h s m c) 6) refl (allows 0x0D (2 ∷ []) refl refl refl) refl refl (λ a. quiet-here (synced st) _ (goes-synced (mn c) st facts on a)))
-      (known 0x0E _ (nth (table h s m c) 7) refl (allows 0x0E (1 ∷ []) refl refl refl) refl refl (λ a. connect-row h sheet st m c facts on world asked 0x0E a))
-      (known 0x0F _ (nth (table h s m c) 8) refl (allows 0x0F (1 ∷ 2 ∷ 3 ∷ []) refl refl refl) refl refl (λ a. quiet-here (dropped st) _ (goes-dropped (mn c) st facts on)))
-      (known 0x1D _ (nth (table h s m c) 9) refl (allows 0x1D (2 ∷ 3 ∷ []) refl refl refl) refl refl (λ a. mem-row h sheet st m c facts on world asked 0x1D false readable read-is 0 [] []))
-      (known 0x1E _ (nth (table h s m c) 10) refl (allows 0x1E (2 ∷ 3 ∷ []) refl refl refl) refl refl (λ a. mem-row h sheet st m c facts on world asked 0x1E true (writable (link s)) write-is 0 [] []))
+      (known 0x00 _ (nth (table h s m c) 0) refl (allowing 0x00 (1 ∷ 2 ∷ 3 ∷ []) refl refl refl) refl refl (λ a. quiet-here st [] (kept h sheet st m c facts on world asked)))
+      (known 0x01 _ (nth (table h s m c) 1) refl (allowing 0x01 (2 ∷ 3 ∷ []) refl refl refl) refl refl (λ a. param-row h sheet st m c facts on world asked 0x01 false readable read-is 0 [] []))
+      (known 0x02 _ (nth (table h s m c) 2) refl (allowing 0x02 (2 ∷ 3 ∷ []) refl refl refl) refl refl (λ a. param-row h sheet st m c facts on world asked 0x02 true (writable (link s)) write-is 0 [] []))
+      (known 0x03 _ (nth (table h s m c) 3) refl (allowing 0x03 (2 ∷ 3 ∷ []) refl refl refl) refl refl (λ a. item-row h sheet st m c facts on world asked 0x03))
+      (known 0x05 _ (nth (table h s m c) 4) refl (allowing 0x05 (2 ∷ 3 ∷ []) refl refl refl) refl refl (λ a. alarms-row h sheet st m c facts on world asked 0x05))
+      (known 0x06 _ (nth (table h s m c) 5) refl (allowing 0x06 (2 ∷ 3 ∷ []) refl refl refl) refl refl (λ a. clear-row h sheet st m c facts on world asked 0x06))
+      (known 0x0D _ (nth (table h s m c) 6) refl (allowing 0x0D (2 ∷ []) refl refl refl) refl refl (λ a. quiet-here (synced st) _ (goes-synced (mn c) st facts on a)))
+      (known 0x0E _ (nth (table h s m c) 7) refl (allowing 0x0E (1 ∷ []) refl refl refl) refl refl (λ a. connect-row h sheet st m c facts on world asked 0x0E a))
+      (known 0x0F _ (nth (table h s m c) 8) refl (allowing 0x0F (1 ∷ 2 ∷ 3 ∷ []) refl refl refl) refl refl (λ a. quiet-here (dropped st) _ (goes-dropped (mn c) st facts on)))
+      (known 0x1D _ (nth (table h s m c) 9) refl (allowing 0x1D (2 ∷ 3 ∷ []) refl refl refl) refl refl (λ a. mem-row h sheet st m c facts on world asked 0x1D false readable read-is 0 [] []))
+      (known 0x1E _ (nth (table h s m c) 10) refl (allowing 0x1E (2 ∷ 3 ∷ []) refl refl refl) refl refl (λ a. mem-row h sheet st m c facts on world asked 0x1E true (writable (link s)) write-is 0 [] []))
       unknown-code
 
-  -- check 1
-  lost-or : (b : Bool) {y : Judgement} {f : Fate} → (b ≡ true → eqb (link s) 3 ≡ true) → Is y f
-      → Same h sheet st m c (pick b (comesTo 0 Whole Quiet (lost st)) (finished st (named (code c) c) y)) (when b lostCycle f)
+  -- check 1, where it fails
+  missed-same : (b : Bool) → (b ≡ true → st .watch .failures < 255) → eqb (link s) 3 ≡ true
+      → Same h sheet st m c (comesTo 0 Whole Quiet (pick b (tolerated st (mn c)) (lost st))) (when b (toleratedCycle s) lostCycle)
   unfolding pick when laid
+  missed-same true few three =
+      record { alarm = refl; place = whole-at .told; next = goes-tolerated (mn c) st facts on three (few refl); body = λ k old. quiet-at sheet m c k old; memory = quiet-keeps c m ∙ unmoved h sheet st m c facts on world asked }
+  missed-same false few three =
+      record { alarm = refl; place = whole-at .told; next = goes-lost (mn c) st facts on three; body = λ k old. quiet-at sheet m c k old; memory = quiet-keeps c m ∙ unmoved h sheet st m c facts on world asked }
+
+  -- and the whole of it
+  lost-or : (b : Bool) {y : Judgement} {f : Fate} → (b ≡ true → eqb (link s) 3 ≡ true) → Is y f
+      → Same h sheet st m c (pick b (comesTo 0 Whole Quiet (missedOf (most h) st (mn c))) (finished st (named (code c) c) y))
+      (when b (when (ltb (failures s) (most h)) (toleratedCycle s) lostCycle) (passing f))
+  unfolding pick when missedOf octetsOf
   lost-or true g k =
-      record { alarm = refl; place = whole-at .told; next = goes-lost (mn c) st facts on (g refl); body = λ k old. quiet-at sheet m c k old; memory = quiet-keeps c m ∙ unmoved h sheet st m c facts on world asked }
+      missed-same (ltb (st .watch .failures) (most h))
+      (λ e. let l = ltb-true (st .watch .failures) (most h) e in omega (arith, world .few)) (g refl)
   lost-or false g k = k .same
 
   -- "Link 3 with MN known": MN known is 0 or 1
@@ -161,7 +172,7 @@ module _ (h : Sheet) (sheet : List ℕ) (st : LinkState) (m c : List ℕ) (facts
   unfolding outcomeOf fateOf followsOf octetsOf
   named-same =
       let n = named (code c) c in
-      subst (λ (b : Bool). Same h sheet st m c (pick (eqb (st .link) 3 && b) (comesTo 0 Whole Quiet (lost st)) (finished st n (judgeOf sheet (layoutFor h) st n))) (fateOf h s m c))
+      subst (λ (b : Bool). Same h sheet st m c (pick (eqb (st .link) 3 && b) (comesTo 0 Whole Quiet (missedOf (most h) st (mn c))) (finished st n (judgeOf sheet (layoutFor h) st n))) (fateOf h s m c))
       (sym (follows (st .watch .known) (facts .known) (eqb (mn c) ((st .watch .last + 1) % 16) && eqb (sn c) (st .watch .rsn))))
       (lost-or _ (λ e. and-first _ _ e) (judge-same (code c)))
 

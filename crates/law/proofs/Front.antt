@@ -1,7 +1,7 @@
 -- The octets that the walk has read are the writing of a well-formed sheet.
 use mathlib.Core.Bool.{Bool, true, false, _||_, and-eq-true-iff, true≢false}
 use mathlib.Core.Logic.{_⊎_, inl, inr, ⊎-elim}
-use mathlib.Core.Path.{_≡_, refl, sym, ap, ap₂, _∙_}
+use mathlib.Core.Path.{_≡_, refl, sym, ap, ap₂, subst, _∙_}
 use mathlib.Core.List.{List, [], _∷_, _++_}
 use Prim.Native.Nat.{ℕ, zero, suc, _+_, _-_, _*_, _≤_, _<_}
 use native.Mathlib.Nat.{sub-zero, zero-sub, suc-sub-suc}
@@ -11,8 +11,8 @@ use lib.Dec.{eqb}
 use lib.ListN.{length, getD, take, drop, length-drop, take-append-drop}
 use lib.Seq.{getD-drop, drop-drop, take-nil, length-take-le}
 use Rattle.octets.specs.Parts.{allZero}
-use Rattle.octets.proofs.Cases.{decided}
-use Rattle.octets.proofs.Pick.{pick-no}
+use Rattle.octets.proofs.Cases.{decided, eq-or-ne}
+use Rattle.octets.proofs.Pick.{pick-no, pick-eq, pick-ne}
 use Rattle.regions.specs.Region.{regionFrom, regionAt, regionsOf, listed, holdsOf, givesOf}
 use Rattle.regions.specs.Search.{totalOf, grantsOf}
 use Rattle.regions.specs.declared.Region.{Region}
@@ -22,13 +22,13 @@ use Rattle.regions.proofs.Spans.{all-before}
 use Rattle.sheet.specs.Entries.{parameterFrom, parameterAt, itemFrom}
 use Rattle.sheet.specs.Kinds.{isLength}
 use Rattle.sheet.specs.Reading.{tailOf}
-use Rattle.sheet.specs.Walk.{layoutOf}
+use Rattle.sheet.specs.Walk.{toleranceIn, layoutOf}
 use Rattle.sheet.specs.Sound.{Sound, behind}
 use Rattle.sheet.specs.declared.entries.Parameter.{Parameter}
 use Rattle.sheet.specs.declared.records.Counts.{Counts}
 use Rattle.sheet.proofs.Steps.{region-there, parameter-there}
-use Rattle.law.specs.Words.{Every, Some, joined}
-use Rattle.law.specs.Sheet.{Item as Ident, Sheet, GoodRegion, GoodParameter, GoodItem, WellFormed, FiveLengths, IsOctet, InRegion, regionOctets, parameterOctets, itemOctets, written, room}
+use Rattle.law.specs.Words.{Every, Some, joined, octet}
+use Rattle.law.specs.Sheet.{Item as Ident, Sheet, GoodRegion, GoodParameter, GoodItem, WellFormed, FiveLengths, IsOctet, InRegion, regionOctets, parameterOctets, itemOctets, toleranceOctets, written, room}
 use Rattle.law.proofs.Written.{two-octets, four-octets, opened}
 use Rattle.law.proofs.Marks.{Marked}
 use Rattle.law.proofs.Layouts.{layoutFor, asArea, asParam, identFrom}
@@ -56,6 +56,10 @@ module _ (l : List ℕ) (o : (i : ℕ) → getD l i 0 < 256) where
       opened l 0 3 (omega arith)
       ∙ ap (λ (x : ℕ). x ∷ getD l 1 0 ∷ getD l 2 0 ∷ drop 3 l) k
       ∙ ap (λ (t : List ℕ). 4 ∷ getD l 1 0 ∷ getD l 2 0 ∷ t) (sym (take-append-drop 32 (drop 3 l)) ∙ ap (λ (t : List ℕ). take 32 (drop 3 l) ++ t) (drop-drop 32 3 l))
+
+  pub cut-tolerance : 2 ≤ length l → getD l 0 0 ≡ 6 → l ≡ toleranceOctets (getD l 1 0) ++ drop 2 l
+  unfolding listed
+  cut-tolerance h k = opened l 0 2 h ∙ ap (λ (x : ℕ). x ∷ getD l 1 0 ∷ drop 2 l) k
 
 or-true : (a b : Bool) → a || b ≡ true → (a ≡ true) ⊎ (b ≡ true)
 or-true true b e = inl refl
@@ -113,6 +117,15 @@ octets-take zero s o = tt
 octets-take (suc n) [] o = tt
 octets-take (suc n) (x ∷ xs) o = (o .0, octets-take n xs (o .1))
 
+listed-none : (g : ℕ → ℕ) → octet (listed g 0 0) 0 ≡ 0
+unfolding listed
+listed-none g = refl
+
+listed-first : (g : ℕ → ℕ) (n : ℕ) → 1 ≤ n → octet (listed g 0 n) 0 ≡ g 0
+unfolding listed
+listed-first g zero h = absurd (let k : ⊥ = omega arith in k)
+listed-first g (suc n) h = refl
+
 -- the sheet that the first records of octets are
 abbrev pub readSheet : List ℕ → Counts → Sheet
 readSheet s so = record {
@@ -122,6 +135,7 @@ readSheet s so = record {
   regions = listed (λ (i : ℕ). asArea (regionAt s i)) 0 (so .regions);
   parameters = listed (λ (j : ℕ). asParam (parameterAt s (so .regions) j)) 0 (so .parameters);
   items = listed (λ (k : ℕ). identFrom s (4 + 10 * so .regions + 8 * so .parameters + 35 * k)) 0 (so .items);
+  tolerances = listed (λ (n : ℕ). getD s (4 + 10 * so .regions + 8 * so .parameters + 35 * so .items + 2 * n + 1) 0) 0 (so .tolerances);
 }
 
 module _ (s : List ℕ) (octs : Every IsOctet s) where
@@ -159,6 +173,12 @@ module _ (s : List ℕ) (octs : Every IsOctet s) where
       let d = length-drop at s in
       cut-ident (drop at s) (od at) (omega arith) (first-of at ∙ k)
       ∙ ap₂ (λ (p : Ident) (t : List ℕ). itemOctets p ++ t) (ident-there at) (drop-drop 35 at s)
+
+  tolerance-cut : (at : ℕ) → at + 2 ≤ length s → getD s at 0 ≡ 6 → drop at s ≡ toleranceOctets (getD s (at + 1) 0) ++ drop (at + 2) s
+  tolerance-cut at h k =
+      let d = length-drop at s in
+      cut-tolerance (drop at s) (od at) (omega arith) (first-of at ∙ k)
+      ∙ ap₂ (λ (n : ℕ) (t : List ℕ). toleranceOctets n ++ t) (getD-drop at s 1 0) (drop-drop 2 at s)
 
   module _ (so : Counts) (at : ℕ) (ok : Sound s at so) (mk : Marked s at so) (here : at ≡ behind so) (inside : at ≤ length s)
       (five : isLength (getD s 1 0) ≡ true) where
@@ -218,6 +238,13 @@ module _ (s : List ℕ) (octs : Every IsOctet s) where
     unfolding itemFrom
     rising i h = ok .items-rise i h
 
+    good-tolerance : (n : ℕ) → n < so .tolerances → getD s (4 + 10 * so .regions + 8 * so .parameters + 35 * so .items + 2 * n + 1) 0 ≤ 3
+    good-tolerance n h =
+        let few = ok .few-tolerances in
+        subst (λ (i : ℕ). getD s i 0 ≤ 3)
+        (let e : 5 + 10 * so .regions + 8 * so .parameters + 35 * so .items ≡ 4 + 10 * so .regions + 8 * so .parameters + 35 * so .items + 2 * n + 1 = omega arith in e)
+        (ok .tolerance-fine (omega arith))
+
     pub front-good : WellFormed (readSheet s so)
     front-good =
         let r = so .regions in
@@ -236,6 +263,8 @@ module _ (s : List ℕ) (octs : Every IsOctet s) where
           few-regions = (rw (length-listed (λ (i : ℕ). asArea (regionAt s i)) 0 r) (ok .few-regions), let e = sum-listed (regionAt s) 0 r in omega (arith, e, ok .memory-sum, ok .memory-room));
           few-parameters = rw (length-listed (λ (j : ℕ). asParam (parameterAt s r j)) 0 p) (ok .few-parameters);
           few-items = rw (length-listed (λ (j : ℕ). identFrom s (4 + 10 * r + 8 * p + 35 * j)) 0 k) (ok .few-items);
+          tolerances = every-listed _ (λ n. n ≤ 3) 0 (so .tolerances) (λ i l u. good-tolerance i (omega arith));
+          once = rw (length-listed (λ (n : ℕ). getD s (4 + 10 * r + 8 * p + 35 * k + 2 * n + 1) 0) 0 (so .tolerances)) (ok .few-tolerances);
         }
 
     pub front-written : s ≡ written (readSheet s so) (drop at s)
@@ -248,14 +277,31 @@ module _ (s : List ℕ) (octs : Every IsOctet s) where
         all-listed _ regionOctets s 4 10 r (λ i h. area-cut (4 + 10 * i) (omega arith) (mk .regions i h)) in
         let b : drop (4 + 10 * r) s ≡ joined parameterOctets (readSheet s so .parameters) ++ drop (4 + 10 * r + 8 * p) s =
         all-listed _ parameterOctets s (4 + 10 * r) 8 p (λ i h. param-cut (4 + 10 * r + 8 * i) (omega arith) (mk .parameters i h)) in
-        let c : drop (4 + 10 * r + 8 * p) s ≡ joined itemOctets (readSheet s so .items) ++ drop (behind so) s =
+        let c : drop (4 + 10 * r + 8 * p) s ≡ joined itemOctets (readSheet s so .items) ++ drop (4 + 10 * r + 8 * p + 35 * k) s =
         all-listed _ itemOctets s (4 + 10 * r + 8 * p) 35 k (λ i h. ident-cut (4 + 10 * r + 8 * p + 35 * i) (omega arith) (mk .items i h .0)) in
-        let d : drop (behind so) s ≡ drop at s = ap (λ (i : ℕ). drop i s) (sym here) in
+        let d : drop (4 + 10 * r + 8 * p + 35 * k) s ≡ joined toleranceOctets (readSheet s so .tolerances) ++ drop (behind so) s =
+        all-listed _ toleranceOctets s (4 + 10 * r + 8 * p + 35 * k) 2 (so .tolerances)
+        (λ i h. tolerance-cut (4 + 10 * r + 8 * p + 35 * k + 2 * i) (omega arith) (mk .tolerances i h)) in
+        let e : drop (behind so) s ≡ drop at s = ap (λ (i : ℕ). drop i s) (sym here) in
         opened s 0 4 (omega arith)
         ∙ ap₂ (λ (x : ℕ) (t : List ℕ). x ∷ getD s 1 0 ∷ getD s 2 0 ∷ getD s 3 0 ∷ t) (mk .link (omega arith))
         (a ∙ ap (λ (t : List ℕ). joined regionOctets (readSheet s so .regions) ++ t)
         (b ∙ ap (λ (t : List ℕ). joined parameterOctets (readSheet s so .parameters) ++ t)
-        (c ∙ ap (λ (t : List ℕ). joined itemOctets (readSheet s so .items) ++ t) d)))
+        (c ∙ ap (λ (t : List ℕ). joined itemOctets (readSheet s so .items) ++ t)
+        (d ∙ ap (λ (t : List ℕ). joined toleranceOctets (readSheet s so .tolerances) ++ t) e))))
+
+    tolerance-read : toleranceIn s so ≡ octet (readSheet s so .tolerances) 0
+    unfolding toleranceIn
+    tolerance-read =
+        let g : ℕ → ℕ = λ n. getD s (4 + 10 * so .regions + 8 * so .parameters + 35 * so .items + 2 * n + 1) 0 in
+        ⊎-elim
+        (λ (z : so .tolerances ≡ 0). pick-eq _ _ z ∙ sym (ap (λ (n : ℕ). octet (listed g 0 n) 0) z ∙ listed-none g))
+        (λ (z : so .tolerances ≡ 0 → ⊥).
+        pick-ne _ _ z
+        ∙ ap (λ (i : ℕ). getD s i 0)
+        (let e : 5 + 10 * so .regions + 8 * so .parameters + 35 * so .items ≡ 4 + 10 * so .regions + 8 * so .parameters + 35 * so .items + 2 * 0 + 1 = omega arith in e)
+        ∙ sym (listed-first g (so .tolerances) (omega arith)))
+        (eq-or-ne (so .tolerances) 0)
 
     pub layout-read : layoutOf s so ≡ layoutFor (readSheet s so)
     unfolding layoutOf
@@ -266,5 +312,7 @@ module _ (s : List ℕ) (octs : Every IsOctet s) where
         let a = sym (length-listed (λ (i : ℕ). asArea (regionAt s i)) 0 r) in
         let b = sym (length-listed (λ (j : ℕ). asParam (parameterAt s r j)) 0 p) in
         let c = sym (length-listed (λ (j : ℕ). identFrom s (4 + 10 * r + 8 * p + 35 * j)) 0 k) in
+        let t = sym (length-listed (λ (n : ℕ). getD s (4 + 10 * r + 8 * p + 35 * k + 2 * n + 1) 0) 0 (so .tolerances)) in
+        let v = tolerance-read in
         let m = ok .memory-sum ∙ sym (sum-listed (regionAt s) 0 r) in
-        λ i. record { l = getD s 1 0; version = getD s 2 0; profile = getD s 3 0; regions = a i; parameters = b i; items = c i; memory = m i }
+        λ i. record { l = getD s 1 0; version = getD s 2 0; profile = getD s 3 0; regions = a i; parameters = b i; items = c i; tolerances = t i; tolerance = v i; memory = m i }

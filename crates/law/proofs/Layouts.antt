@@ -1,17 +1,12 @@
 -- What the machine keeps of a sheet, and its records as the law has them, both ways.
 use Prim.Native.Nat.{ℕ, _+_}
-use Rattle.law.specs.Sheet.{Region as Area, Parameter as Param, Item as Ident, Sheet, room}
-use Rattle.law.specs.Sheet.{Region as Area, Parameter as Param, Item as Ident, Sheet, room}
-use Rattle.law.specs.Sheet.{Sheet, room}
+use mathlib.Core.List.{List}
+use lib.ListN.{length, getD, take, drop}
 use Rattle.regions.specs.declared.Region.{Region}
 use Rattle.sheet.specs.declared.entries.Parameter.{Parameter}
 use Rattle.sheet.specs.declared.records.Counts.{Counts}
 use Rattle.sheet.specs.declared.walk.Layout.{Layout}
-use lib.ListN.{length, getD, take, drop}
-use lib.ListN.{length, getD, take, drop}
-use lib.ListN.{length}
-use mathlib.Core.List.{List}
-use mathlib.Core.List.{List}
+use Rattle.law.specs.Sheet.{Region as Area, Parameter as Param, Item as Ident, Sheet, allows, room}
 
 abbrev pub layoutFor : Sheet → Layout
 layoutFor h = record {
@@ -21,15 +16,21 @@ layoutFor h = record {
   regions = length (h .regions);
   parameters = length (h .parameters);
   items = length (h .items);
+  tolerances = length (h .tolerances);
+  tolerance = allows h;
   memory = room (h .regions);
 }
 
+abbrev pub full : ℕ → ℕ → ℕ → ℕ → ℕ → Counts
+full n p k t m = record { regions = n; parameters = p; items = k; tolerances = t; memory = m }
+
+-- before the tolerance
 abbrev pub counts : ℕ → ℕ → ℕ → ℕ → Counts
-counts n p k m = record { regions = n; parameters = p; items = k; memory = m }
+counts n p k m = full n p k 0 m
 
 -- the counts of a sheet's records
 abbrev pub countsFor : Sheet → Counts
-countsFor h = counts (length (h .regions)) (length (h .parameters)) (length (h .items)) (room (h .regions))
+countsFor h = full (length (h .regions)) (length (h .parameters)) (length (h .items)) (length (h .tolerances)) (room (h .regions))
 
 abbrev pub asRegion : Area → Region
 asRegion r = record { start = r .start; length = r .length; rights = r .rights }

@@ -4,6 +4,7 @@ pub mod Written
 pub mod Listed
 pub mod OneSheet
 pub mod Running
+pub mod Readings
 pub mod Complete
 pub mod Marks
 pub mod Front

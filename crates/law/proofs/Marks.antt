@@ -5,14 +5,14 @@ use mathlib.Core.Path.{_≡_, refl, sym, ap, subst, _∙_}
 use mathlib.Core.List.{List}
 use Prim.Native.Nat.{ℕ, zero, suc, _+_, _*_, _≤_, _<_}
 use native.Mathlib.Omega.{arith}
-use borrow.Author.Tests.{eqb-true, eqb-false, ltb-false, eq-eqb, ne-eqb, not-false}
+use borrow.Author.Tests.{eqb-true, eqb-false, eq-eqb, ne-eqb, not-false}
 use lib.ListN.{length, getD, drop}
 use lib.Seq.{getD-drop}
 use Rattle.octets.specs.Parts.{allZero}
 use Rattle.octets.proofs.Cases.{eq-or-ne}
 use Rattle.octets.proofs.Pick.{passed, pick-eq, pick-ne, pick-key}
-use Rattle.sheet.specs.Kinds.{misplacedOf}
-use Rattle.sheet.specs.Reading.{linkOf, regionOf, parameterOf, itemOf, bodyOf, recordOf, tailOf}
+use Rattle.sheet.specs.Kinds.{isKind, misplacedOf}
+use Rattle.sheet.specs.Reading.{linkOf, regionOf, parameterOf, itemOf, toleranceOf, bodyOf, recordOf, tailOf}
 use Rattle.sheet.specs.Sound.{Standing, behind}
 use Rattle.sheet.specs.Walk.{none, placeOf, endedOf, onward, walkOf}
 use Rattle.sheet.specs.declared.records.Counts.{Counts}
@@ -21,8 +21,8 @@ use Rattle.sheet.specs.declared.records.Reading.{Reading}
 use Rattle.sheet.specs.declared.records.Reading.the-variants.{Record, Bad}
 use Rattle.sheet.specs.declared.walk.Verdict.{Verdict}
 use Rattle.sheet.specs.declared.walk.Verdict.the-variants.{Faulty}
-use Rattle.sheet.proofs.Judged.{bad-record, same-counts, region-read, parameter-read, item-read}
-use Rattle.sheet.proofs.Onward.{in-place, record-sound}
+use Rattle.sheet.proofs.Judged.{bad-record, same-counts, region-read, parameter-read, item-read, tolerance-read}
+use Rattle.sheet.proofs.Onward.{in-place, last-kind, record-sound}
 use Rattle.sheet.proofs.Steps.{one-more}
 use Rattle.sheet.proofs.Walked.{standing-behind}
 
@@ -32,6 +32,7 @@ pub record Marked (s : List ℕ) (at : ℕ) (so : Counts) : Type 0 where
   pub parameters : (j : ℕ) → j < so .parameters → getD s (4 + 10 * so .regions + 8 * j) 0 ≡ 3
   pub items : (k : ℕ) → k < so .items
       → (getD s (4 + 10 * so .regions + 8 * so .parameters + 35 * k) 0 ≡ 4) × (allZero (tailOf (drop (4 + 10 * so .regions + 8 * so .parameters + 35 * k) s)) ≡ true)
+  pub tolerances : (n : ℕ) → n < so .tolerances → getD s (4 + 10 * so .regions + 8 * so .parameters + 35 * so .items + 2 * n) 0 ≡ 6
 
 module _ (s rest : List ℕ) (so : Counts) (n : ℕ) (next : Counts) (st : Standing s rest so) (mk : Marked s (placeOf s rest) so) where
   -- the octet at the walk's place
@@ -50,15 +51,16 @@ module _ (s rest : List ℕ) (so : Counts) (n : ℕ) (next : Counts) (st : Stand
         regions = λ i h. absurd (let k : ⊥ = omega arith in k);
         parameters = λ i h. absurd (let k : ⊥ = omega arith in k);
         items = λ i h. absurd (let k : ⊥ = omega arith in k);
+        tolerances = λ i h. absurd (let k : ⊥ = omega arith in k);
       })
 
   module _ (at : placeOf s rest ≡ behind so) (m : misplacedOf false (getD rest 0 0) so ≡ false) where
     linked : 1 ≤ placeOf s rest + n → getD s 0 0 ≡ 1
     linked h = mk .link (omega arith)
 
-    later-marked : (getD rest 0 0 ≡ 0 → ⊥) → getD rest 0 0 ≤ 4 → bodyOf (getD rest 0 0) s rest so ≡ Record n next → Marked s (placeOf s rest + n) next
-    unfolding bodyOf regionOf parameterOf itemOf
-    later-marked n₀ four body =
+    later-marked : (getD rest 0 0 ≡ 0 → ⊥) → isKind (getD rest 0 0) ≡ true → bodyOf (getD rest 0 0) s rest so ≡ Record n next → Marked s (placeOf s rest + n) next
+    unfolding bodyOf regionOf parameterOf itemOf toleranceOf
+    later-marked n₀ known body =
         let o = in-place (getD rest 0 0) so m in
         let n₁ = o .0 in
         let b = sym (pick-ne _ _ n₀ ∙ pick-ne _ _ n₁) ∙ body in
@@ -67,29 +69,35 @@ module _ (s rest : List ℕ) (so : Counts) (n : ℕ) (next : Counts) (st : Stand
         let q = region-read _ _ so n next (sym (pick-eq _ _ k₂) ∙ b) in
         let np = o .1 k₂ in
         let nk = o .2 k₂ in
+        let nt = o .3 k₂ in
         let e : 4 + 10 * so .regions ≡ placeOf s rest = omega arith in
         subst (λ (c : Counts). Marked s (placeOf s rest + n) c) (q .counts) (record {
           link = linked;
           regions = one-more (λ i. getD s (4 + 10 * i) 0 ≡ 2) (so .regions) (mk .regions) (ap (λ (i : ℕ). getD s i 0) e ∙ here ∙ k₂);
           parameters = λ j h. absurd (let k : ⊥ = omega (arith, np) in k);
           items = λ j h. absurd (let k : ⊥ = omega (arith, nk) in k);
+          tolerances = λ j h. absurd (let k : ⊥ = omega (arith, nt) in k);
         }))
         (λ n₂.
         ⊎-elim
         (λ (k₃ : getD rest 0 0 ≡ 3).
         let q = parameter-read _ _ _ so n next (sym (pick-ne _ _ n₂ ∙ pick-eq _ _ k₃) ∙ b) in
-        let nk = o .3 k₃ in
+        let nk = o .4 k₃ in
+        let nt = o .5 k₃ in
         let e : 4 + 10 * so .regions + 8 * so .parameters ≡ placeOf s rest = omega arith in
         subst (λ (c : Counts). Marked s (placeOf s rest + n) c) (q .counts) (record {
           link = linked;
           regions = mk .regions;
           parameters = one-more (λ j. getD s (4 + 10 * so .regions + 8 * j) 0 ≡ 3) (so .parameters) (mk .parameters) (ap (λ (i : ℕ). getD s i 0) e ∙ here ∙ k₃);
           items = λ j h. absurd (let k : ⊥ = omega (arith, nk) in k);
+          tolerances = λ j h. absurd (let k : ⊥ = omega (arith, nt) in k);
         }))
         (λ (n₃ : getD rest 0 0 ≡ 3 → ⊥).
-        let q = item-read _ _ _ so n next (sym (pick-ne _ _ n₂ ∙ pick-ne _ _ n₃) ∙ b) in
-        let e : placeOf s rest ≡ 4 + 10 * so .regions + 8 * so .parameters + 35 * so .items = at in
-        let k₄ : getD rest 0 0 ≡ 4 = omega arith in
+        ⊎-elim
+        (λ (k₄ : getD rest 0 0 ≡ 4).
+        let q = item-read _ _ _ so n next (sym (pick-ne _ _ n₂ ∙ pick-ne _ _ n₃ ∙ pick-eq _ _ k₄) ∙ b) in
+        let nt = o .6 k₄ in
+        let e : placeOf s rest ≡ 4 + 10 * so .regions + 8 * so .parameters + 35 * so .items = omega arith in
         subst (λ (c : Counts). Marked s (placeOf s rest + n) c) (q .counts) (record {
           link = linked;
           regions = mk .regions;
@@ -99,7 +107,23 @@ module _ (s rest : List ℕ) (so : Counts) (n : ℕ) (next : Counts) (st : Stand
                 ap (λ (i : ℕ). getD s i 0) (sym e) ∙ here ∙ k₄,
                 ap (λ (l : List ℕ). allZero (tailOf l)) (ap (λ (i : ℕ). drop i s) (sym e) ∙ sym (st .part)) ∙ q .zeros,
               );
+          tolerances = λ j h. absurd (let k : ⊥ = omega (arith, nt) in k);
         }))
+        (λ (n₄ : getD rest 0 0 ≡ 4 → ⊥).
+        let k₆ = last-kind (getD rest 0 0) known n₀ n₁ n₂ n₃ n₄ in
+        let q = tolerance-read _ so n next (sym (pick-ne _ _ n₂ ∙ pick-ne _ _ n₃ ∙ pick-ne _ _ n₄) ∙ b) in
+        let nt = o .7 k₆ in
+        let e : placeOf s rest ≡ 4 + 10 * so .regions + 8 * so .parameters + 35 * so .items = omega arith in
+        subst (λ (c : Counts). Marked s (placeOf s rest + n) c) (q .counts) (record {
+          link = linked;
+          regions = mk .regions;
+          parameters = mk .parameters;
+          items = mk .items;
+          tolerances = λ j h.
+              ap (λ (i : ℕ). getD s i 0) (let z : 4 + 10 * so .regions + 8 * so .parameters + 35 * so .items + 2 * j ≡ placeOf s rest = omega arith in z)
+              ∙ here ∙ k₆;
+        }))
+        (eq-or-ne (getD rest 0 0) 4))
         (eq-or-ne (getD rest 0 0) 3))
         (eq-or-ne (getD rest 0 0) 2)
 
@@ -118,7 +142,7 @@ module _ (s rest : List ℕ) (so : Counts) (n : ℕ) (next : Counts) (st : Stand
       first-marked (z .0) (z .1) (subst (λ (b : Bool). misplacedOf b (getD rest 0 0) so ≡ false) t (p₃ .0)) (p₄ .1))
       (λ h.
       let t = ne-eqb (length rest) (length s) (λ q. let k : ⊥ = omega (arith, h .0) in k) in
-      later-marked (h .0) (subst (λ (b : Bool). misplacedOf b (getD rest 0 0) so ≡ false) t (p₃ .0)) n₀ (ltb-false 4 (getD rest 0 0) (p₂ .0)) (p₄ .1))
+      later-marked (h .0) (subst (λ (b : Bool). misplacedOf b (getD rest 0 0) so ≡ false) t (p₃ .0)) n₀ (not-false _ (p₂ .0)) (p₄ .1))
       (st .sound .begun)
 
 -- where the walk came to its verdict: at a record that is faulty, or at an end record

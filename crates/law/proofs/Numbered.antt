@@ -10,8 +10,8 @@ use Rattle.sheet.specs.declared.records.Fault.{Fault}
 use Rattle.sheet.specs.declared.records.Fault.the-variants.{Ended, Unknown, Misplaced, Range, Disorder, Excess, Unmapped}
 use Rattle.sheet.specs.declared.walk.Verdict.the-variants.{Faulty}
 use Rattle.law.specs.Words.{Every}
-use Rattle.law.specs.Sheet.{Region as Area, Parameter as Param, Item as Ident, IsOctet, regionOctets, parameterOctets, itemOctets}
-use Rattle.law.specs.Faults.{Sofar, nothing, records, RegionFault, ParameterFault, ItemFault, BodyFault, RecordFault, AfterEnd, FaultAt, FirstFault}
+use Rattle.law.specs.Sheet.{Region as Area, Parameter as Param, Item as Ident, IsOctet, regionOctets, parameterOctets, itemOctets, toleranceOctets}
+use Rattle.law.specs.Faults.{Sofar, nothing, records, RegionFault, ParameterFault, ItemFault, BodyFault, RecordFault, AfterEnd, FaultAt, FirstFault, ToleranceFault}
 use Rattle.law.proofs.Exact.{told-fault}
 
 abbrev Known : ℕ → Type 0
@@ -61,8 +61,10 @@ body-known (records h) rest n c =
     (⊎-elim
     (λ (a : (p : Param) × (t : List ℕ) × (rest ≡ parameterOctets p ++ t) × (p .number < 65536) × (p .address < 4294967296) × ParameterFault h p n).
     known fourteen (known sixteen (known fifteen (known seventeen none))) (a .5))
+    (⊎-elim
     (λ (a : (i : Ident) × (t : List ℕ) × (rest ≡ itemOctets i ++ t) × (length (i .octets) ≡ 32) × ItemFault h i n).
-    known fourteen (known sixteen (known fifteen none)) (a .4)))
+    known fourteen (known sixteen (known fifteen none)) (a .4))
+    (λ (a : (x : ℕ) × (t : List ℕ) × (rest ≡ toleranceOctets x ++ t) × ToleranceFault x n). known fourteen none (a .3))))
     c
 
 record-known : (x : Sofar) (rest : List ℕ) (n : ℕ) → RecordFault x rest n → Known n

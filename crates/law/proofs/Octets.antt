@@ -1,10 +1,10 @@
 -- A well-formed sheet is written in octets.
 use mathlib.Core.Logic.{⊎-elim}
 use mathlib.Core.List.{List, [], _∷_, _++_}
-use Prim.Native.Nat.{ℕ, _%_, _/_, _<_}
+use Prim.Native.Nat.{ℕ, _%_, _/_, _<_, _≤_}
 use native.Mathlib.Omega.{arith}
 use Rattle.law.specs.Words.{Every, joined, inOctets}
-use Rattle.law.specs.Sheet.{Region, Parameter, Item, Sheet, regionOctets, parameterOctets, itemOctets, sheetOctets, FiveLengths, IsOctet, GoodRegion, GoodParameter, GoodItem, WellFormed}
+use Rattle.law.specs.Sheet.{Region, Parameter, Item, Sheet, regionOctets, parameterOctets, itemOctets, sheetOctets, FiveLengths, IsOctet, GoodRegion, GoodParameter, GoodItem, WellFormed, toleranceOctets}
 
 both : (xs t : List ℕ) → Every IsOctet xs → Every IsOctet t → Every IsOctet (xs ++ t)
 both [] t o u = u
@@ -41,6 +41,9 @@ item-octets i g =
     let length : i .length < 256 = omega (arith, g .most) in
     (small 4 5 (omega arith) (omega arith), (g .code, (length, g .octets)))
 
+tolerance-octets : (n : ℕ) → n ≤ 3 → Every IsOctet (toleranceOctets n)
+tolerance-octets n l = (small 6 7 (omega arith) (omega arith), (omega arith, tt))
+
 five : (l : ℕ) → FiveLengths l → IsOctet l
 five l e =
     ⊎-elim (λ a. omega arith)
@@ -48,7 +51,11 @@ five l e =
 
 pub in-octets : (h : Sheet) → WellFormed h → Every IsOctet (sheetOctets h)
 in-octets h w =
-    let items = both (joined itemOctets (h .items)) (0 ∷ []) (all itemOctets GoodItem item-octets (h .items) (w .items)) (small 0 1 (omega arith) (omega arith), tt) in
-    let parameters = both (joined parameterOctets (h .parameters)) (joined itemOctets (h .items) ++ 0 ∷ []) (all parameterOctets (GoodParameter (h .regions)) (parameter-octets (h .regions)) (h .parameters) (w .parameters)) items in
-    let regions = both (joined regionOctets (h .regions)) (joined parameterOctets (h .parameters) ++ (joined itemOctets (h .items) ++ 0 ∷ [])) (all regionOctets GoodRegion region-octets (h .regions) (w .regions)) parameters in
+    let end : List ℕ = 0 ∷ [] in
+    let tt′ : List ℕ = joined toleranceOctets (h .tolerances) ++ end in
+    let ti : List ℕ = joined itemOctets (h .items) ++ tt′ in
+    let tolerances = both (joined toleranceOctets (h .tolerances)) end (all toleranceOctets (λ n. n ≤ 3) tolerance-octets (h .tolerances) (w .tolerances)) (small 0 1 (omega arith) (omega arith), tt) in
+    let items = both (joined itemOctets (h .items)) tt′ (all itemOctets GoodItem item-octets (h .items) (w .items)) tolerances in
+    let parameters = both (joined parameterOctets (h .parameters)) ti (all parameterOctets (GoodParameter (h .regions)) (parameter-octets (h .regions)) (h .parameters) (w .parameters)) items in
+    let regions = both (joined regionOctets (h .regions)) (joined parameterOctets (h .parameters) ++ ti) (all regionOctets GoodRegion region-octets (h .regions) (w .regions)) parameters in
     (small 1 2 (omega arith) (omega arith), (five (h .l) (w .l), (w .version, (w .profile, regions))))

@@ -5,17 +5,17 @@ use mathlib.Core.Path.{_≡_, refl, sym, ap, subst, _∙_}
 use mathlib.Core.List.{List, _++_}
 use Prim.Native.Nat.{ℕ, zero, suc, _+_, _*_, _≤_, _<_}
 use native.Mathlib.Omega.{arith}
-use borrow.Author.Tests.{eqb-true, eqb-false, ltb-true, ltb-false, eq-eqb, ne-eqb, le-ltb, not-false}
+use borrow.Author.Tests.{eqb-true, eqb-false, ltb-true, ltb-false, eq-eqb, ne-eqb, le-ltb, le-leb, lt-leb, not-false}
 use lib.Dec.{eqb, ltb}
 use lib.ListN.{length, getD, drop, length-drop}
 use lib.Seq.{take-at, length-take-le}
-use Rattle.octets.proofs.Cases.{decided, eq-or-ne}
+use Rattle.octets.proofs.Cases.{decided, eq-or-ne, lt-or-le}
 use Rattle.octets.proofs.Pick.{pick-yes, pick-no, pick-eq, pick-ne, pick-key}
 use Rattle.regions.specs.Region.{regionFrom, regionAt}
 use Rattle.sheet.specs.Entries.{parameterFrom, parameterAt}
 use Rattle.sheet.specs.Faults.{numberOf}
-use Rattle.sheet.specs.Kinds.{sizeOf, misplacedOf}
-use Rattle.sheet.specs.Reading.{linkOf, regionOf, parameterOf, itemOf, bodyOf, recordOf}
+use Rattle.sheet.specs.Kinds.{isKind, sizeOf, misplacedOf}
+use Rattle.sheet.specs.Reading.{linkOf, regionOf, parameterOf, itemOf, toleranceOf, bodyOf, recordOf}
 use Rattle.sheet.specs.Sound.{Sound}
 use Rattle.sheet.specs.Walk.{none, placeOf, endedOf, verdictOf}
 use Rattle.sheet.specs.declared.records.Counts.{Counts}
@@ -24,29 +24,48 @@ use Rattle.sheet.specs.declared.records.Fault.the-variants.{Ended, Unknown, Mis
 use Rattle.sheet.specs.declared.records.Reading.the-variants.{Bad}
 use Rattle.sheet.specs.declared.walk.Layout.{Layout}
 use Rattle.sheet.specs.declared.walk.Verdict.the-variants.{Valid, Faulty}
-use Rattle.sheet.proofs.Onward.{in-place}
+use Rattle.sheet.proofs.Onward.{in-place, last-kind}
 use Rattle.law.specs.Words.{Every}
-use Rattle.law.specs.Sheet.{Region as Area, Parameter as Param, Item as Ident, WellFormed, IsOctet, regionOctets, parameterOctets, itemOctets, written, room}
-use Rattle.law.specs.Faults.{RegionFault, ParameterFault, ItemFault, nothing, records, InPlace, recordLength, BodyFault, RecordFault, FirstFault}
+use Rattle.law.specs.Sheet.{Region as Area, Parameter as Param, Item as Ident, WellFormed, IsOctet, regionOctets, parameterOctets, itemOctets, toleranceOctets, written, room}
+use Rattle.law.specs.Faults.{RegionFault, ParameterFault, ItemFault, ToleranceFault, nothing, records, InPlace, Kind, recordLength, BodyFault, RecordFault, FirstFault}
 use Rattle.law.proofs.Checks.{decides, passes, no-more, read-no-fault}
 use Rattle.law.proofs.Complete.{five}
 use Rattle.law.proofs.Written.{le2-back, le4-back}
-use Rattle.law.proofs.RecordFaults.{area-fault, param-fault, ident-fault}
-use Rattle.law.proofs.Front.{readSheet, five-back, cut-area, cut-param, cut-ident, octet-at, octets-drop, front-good, front-written, sum-listed}
+use Rattle.law.proofs.RecordFaults.{area-fault, param-fault, ident-fault, tolerance-fault}
+use Rattle.law.proofs.Front.{readSheet, five-back, cut-area, cut-param, cut-ident, cut-tolerance, octet-at, octets-drop, front-good, front-written, sum-listed}
 use Rattle.law.proofs.Sound.{reached, end-later}
 use Rattle.law.proofs.Layouts.{asArea, asParam, identFrom}
 use Rattle.law.proofs.Listed.{length-listed}
 
-size-same : (k : ℕ) → k ≤ 4 → sizeOf k ≡ recordLength k
+size-same : (k : ℕ) → Kind k → sizeOf k ≡ recordLength k
 unfolding sizeOf
 size-same zero h = pick-yes _ _ refl
 size-same (suc zero) h = pick-no _ _ refl ∙ pick-yes _ _ refl
 size-same (suc (suc zero)) h = pick-no _ _ refl ∙ pick-no _ _ refl ∙ pick-yes _ _ refl
 size-same (suc (suc (suc zero))) h = pick-no _ _ refl ∙ pick-no _ _ refl ∙ pick-no _ _ refl ∙ pick-yes _ _ refl
-size-same (suc (suc (suc (suc n)))) h =
-    let k = suc (suc (suc (suc n))) in
-    let e : (j : ℕ) → j < 4 → k ≡ j → ⊥ = λ j l q. omega arith in
+size-same (suc (suc (suc (suc zero)))) h = pick-no _ _ refl ∙ pick-no _ _ refl ∙ pick-no _ _ refl ∙ pick-no _ _ refl ∙ pick-yes _ _ refl
+size-same (suc (suc (suc (suc (suc n))))) h =
+    let k = suc (suc (suc (suc (suc n)))) in
+    let e : (j : ℕ) → j < 5 → k ≡ j → ⊥ = λ j l q. omega arith in
     pick-ne _ _ (e 0 (omega arith)) ∙ pick-ne _ _ (e 1 (omega arith)) ∙ pick-ne _ _ (e 2 (omega arith)) ∙ pick-ne _ _ (e 3 (omega arith))
+    ∙ pick-ne _ _ (e 4 (omega arith))
+
+-- the code's kinds are the paper's
+kind-there : (k : ℕ) → isKind k ≡ true → Kind k
+unfolding isKind
+kind-there k e =
+    ⊎-elim
+    (λ (l : 4 < k). inr (eqb-true k 6 (sym (ap (λ (b : Bool). b || eqb k 6) (lt-leb k 4 l)) ∙ e)))
+    (λ (l : k ≤ 4). inl l)
+    (lt-or-le 4 k)
+
+kind-back : (k : ℕ) → Kind k → isKind k ≡ true
+unfolding isKind
+kind-back k h =
+    ⊎-elim
+    (λ (l : k ≤ 4). ap (λ (b : Bool). b || eqb k 6) (le-leb k 4 l))
+    (λ (e : k ≡ 6). rw e)
+    h
 
 or-both : (a b : Bool) → a ≡ false → b ≡ false → a || b ≡ false
 or-both true b e f = e
@@ -59,11 +78,24 @@ kind-free kind k n h =
     (λ (e : kind ≡ k → ⊥). ap (λ (b : Bool). b && ltb 0 n) (ne-eqb kind k e))
     (eq-or-ne kind k)
 
-place-in : (kind : ℕ) (so : Counts) → (kind ≡ 1 → ⊥) → (kind ≡ 2 → so .parameters ≡ 0) → (kind ≡ 2 → so .items ≡ 0) → (kind ≡ 3 → so .items ≡ 0)
+place-in : (kind : ℕ) (so : Counts) → (kind ≡ 1 → ⊥) → (kind ≡ 2 → so .parameters ≡ 0) → (kind ≡ 2 → so .items ≡ 0) → (kind ≡ 2 → so .tolerances ≡ 0)
+    → (kind ≡ 3 → so .items ≡ 0) → (kind ≡ 3 → so .tolerances ≡ 0) → (kind ≡ 4 → so .tolerances ≡ 0) → (kind ≡ 6 → so .tolerances ≡ 0)
     → misplacedOf false kind so ≡ false
 unfolding misplacedOf
-place-in kind so a b c d =
-    or-both _ _ (or-both _ _ (or-both _ _ (ne-eqb kind 1 a) (kind-free kind 2 (so .parameters) b)) (kind-free kind 2 (so .items) c)) (kind-free kind 3 (so .items) d)
+place-in kind so a b c d e f g h =
+    or-both _ _
+    (or-both _ _
+    (or-both _ _
+    (or-both _ _
+    (or-both _ _
+    (or-both _ _
+    (or-both _ _ (ne-eqb kind 1 a) (kind-free kind 2 (so .parameters) b))
+    (kind-free kind 2 (so .items) c))
+    (kind-free kind 2 (so .tolerances) d))
+    (kind-free kind 3 (so .items) e))
+    (kind-free kind 3 (so .tolerances) f))
+    (kind-free kind 4 (so .tolerances) g))
+    (kind-free kind 6 (so .tolerances) h)
 
 le4-bound : (a b c d : ℕ) → a < 256 → b < 256 → c < 256 → d < 256 → package.Rattle.octets.specs.Numbers.le4 a b c d < 4294967296
 le4-bound a b c d x y z w = omega arith
@@ -96,12 +128,13 @@ module _ (s rest : List ℕ) (octs : Every IsOctet rest) (fault : Fault) where
       decides _ Ended _ refl (λ b q. let l = eqb-true (length rest) 0 b in omega arith) (λ b₁.
       let l = eqb-false (length rest) 0 b₁ in
       passes (omega arith)
-      (decides _ Unknown _ refl (λ b q. let k = ltb-true 4 kind b in omega arith) (λ b₂.
-      passes (ltb-false 4 kind b₂)
+      (decides _ Unknown _ refl (λ b q. true≢false (sym b ∙ ap not (kind-back kind q))) (λ b₂.
+      let known = kind-there kind (not-false _ b₂) in
+      passes known
       (decides _ Misplaced _ refl
       (λ b (q : kind ≡ 1). true≢false (sym b ∙ ap (λ (x : Bool). misplacedOf x kind none) t ∙ ap not (eq-eqb kind 1 q))) (λ b₃.
       let one : kind ≡ 1 = eqb-true kind 1 (not-false _ (sym (ap (λ (x : Bool). misplacedOf x kind none) t) ∙ b₃)) in
-      let size = size-same kind (ltb-false 4 kind b₂) in
+      let size = size-same kind known in
       passes one
       (decides _ Ended _ refl (λ b q. let k = ltb-true (length rest) (sizeOf kind) b in omega (arith, size, q, k)) (λ b₄.
       passes (let k = ltb-false (length rest) (sizeOf kind) b₄ in omega (arith, size, k)) (link-fault one))))))))
@@ -118,10 +151,10 @@ module _ (s rest : List ℕ) (octs : Every IsOctet rest) (fault : Fault) where
     o : (i : ℕ) → getD rest i 0 < 256
     o = octet-at rest octs
 
-    body-there : getD rest 0 0 ≤ 4 → (getD rest 0 0 ≡ 1 → ⊥) → recordLength (getD rest 0 0) ≤ length rest
+    body-there : isKind (getD rest 0 0) ≡ true → (getD rest 0 0 ≡ 1 → ⊥) → recordLength (getD rest 0 0) ≤ length rest
         → bodyOf (getD rest 0 0) s rest so ≡ Bad fault → BodyFault (records (readSheet s so)) rest (numberOf fault)
-    unfolding bodyOf regionOf parameterOf itemOf
-    body-there four n₁ fits w =
+    unfolding bodyOf regionOf parameterOf itemOf toleranceOf
+    body-there known n₁ fits w =
         ⊎-elim
         (λ (k : getD rest 0 0 ≡ 0). absurd (read-no-fault (sym (pick-eq _ _ k) ∙ w)))
         (λ (n₀ : getD rest 0 0 ≡ 0 → ⊥).
@@ -152,23 +185,34 @@ module _ (s rest : List ℕ) (octs : Every IsOctet rest) (fault : Fault) where
           param-fault s so fault memory (good .numbers-rise) (parameterFrom rest 0) .0 (sym (pick-ne _ _ n₀ ∙ pick-ne _ _ n₁ ∙ pick-ne _ _ n₂ ∙ pick-eq _ _ k) ∙ w),
         )))
         (λ (n₃ : getD rest 0 0 ≡ 3 → ⊥).
-        let k : getD rest 0 0 ≡ 4 = omega arith in
+        let past = pick-ne _ _ n₀ ∙ pick-ne _ _ n₁ ∙ pick-ne _ _ n₂ ∙ pick-ne _ _ n₃ in
+        ⊎-elim
+        (λ (k : getD rest 0 0 ≡ 4).
         let long : 35 ≤ length rest = subst (λ (j : ℕ). recordLength j ≤ length rest) k fits in
         let d = length-drop 3 rest in
-        inr (inr (
+        inr (inr (inl (
           identFrom rest 0,
           drop 35 rest,
           cut-ident rest o long k,
           length-take-le 32 (drop 3 rest) (omega arith),
-          ident-fault s so fault memory (good .numbers-rise) rest octs long (good .codes-rise) .0
-              (sym (pick-ne _ _ n₀ ∙ pick-ne _ _ n₁ ∙ pick-ne _ _ n₂ ∙ pick-ne _ _ n₃) ∙ w),
-        )))
+          ident-fault s so fault memory (good .numbers-rise) rest octs long (good .codes-rise) .0 (sym (past ∙ pick-eq _ _ k) ∙ w),
+        ))))
+        (λ (n₄ : getD rest 0 0 ≡ 4 → ⊥).
+        let k = last-kind (getD rest 0 0) known n₀ n₁ n₂ n₃ n₄ in
+        let long : 2 ≤ length rest = subst (λ (j : ℕ). recordLength j ≤ length rest) k fits in
+        inr (inr (inr (
+          getD rest 1 0,
+          drop 2 rest,
+          cut-tolerance rest o long k,
+          tolerance-fault so fault (getD rest 1 0) .0 (sym (past ∙ pick-ne _ _ n₄) ∙ w),
+        ))))
+        (eq-or-ne (getD rest 0 0) 4))
         (eq-or-ne (getD rest 0 0) 3))
         (eq-or-ne (getD rest 0 0) 2))
         (eq-or-ne (getD rest 0 0) 0)
 
     body-back : recordLength (getD rest 0 0) ≤ length rest → BodyFault (records (readSheet s so)) rest (numberOf fault) → bodyOf (getD rest 0 0) s rest so ≡ Bad fault
-    unfolding bodyOf regionOf parameterOf itemOf
+    unfolding bodyOf regionOf parameterOf itemOf toleranceOf
     body-back fits c =
         let h = readSheet s so in
         let f = region-fits rest o in
@@ -185,13 +229,19 @@ module _ (s rest : List ℕ) (octs : Every IsOctet rest) (fault : Fault) where
         let e : asParam (parameterFrom rest 0) ≡ x .0 = ap (λ (l : List ℕ). asParam (parameterFrom l 0)) (x .2) ∙ param-same (x .0) (x .1) (x .3) (x .4) in
         pick-key 0 _ _ k refl ∙ pick-key 1 _ _ k refl ∙ pick-key 2 _ _ k refl ∙ pick-eq _ _ k
         ∙ param-fault s so fault memory (good .numbers-rise) (parameterFrom rest 0) .1 (subst (λ (p : Param). ParameterFault h p (numberOf fault)) (sym e) (x .5)))
+        (⊎-elim
         (λ (x : (i : Ident) × (t : List ℕ) × (rest ≡ itemOctets i ++ t) × (length (i .octets) ≡ 32) × ItemFault h i (numberOf fault)).
         let k : getD rest 0 0 ≡ 4 = ap (λ (l : List ℕ). getD l 0 0) (x .2) in
         let e : identFrom rest 0 ≡ x .0 = ap (λ (l : List ℕ). identFrom l 0) (x .2) ∙ ident-same (x .0) (x .1) (x .3) in
         let long : 35 ≤ length rest = subst (λ (j : ℕ). recordLength j ≤ length rest) k fits in
-        pick-key 0 _ _ k refl ∙ pick-key 1 _ _ k refl ∙ pick-key 2 _ _ k refl ∙ pick-key 3 _ _ k refl
+        pick-key 0 _ _ k refl ∙ pick-key 1 _ _ k refl ∙ pick-key 2 _ _ k refl ∙ pick-key 3 _ _ k refl ∙ pick-eq _ _ k
         ∙ ident-fault s so fault memory (good .numbers-rise) rest octs long (good .codes-rise) .1
-        (subst (λ (i : Ident). ItemFault h i (numberOf fault)) (sym e) (x .4))))
+        (subst (λ (i : Ident). ItemFault h i (numberOf fault)) (sym e) (x .4)))
+        (λ (x : (n : ℕ) × (t : List ℕ) × (rest ≡ toleranceOctets n ++ t) × ToleranceFault n (numberOf fault)).
+        let k : getD rest 0 0 ≡ 6 = ap (λ (l : List ℕ). getD l 0 0) (x .2) in
+        let e : getD rest 1 0 ≡ x .0 = ap (λ (l : List ℕ). getD l 1 0) (x .2) in
+        pick-key 0 _ _ k refl ∙ pick-key 1 _ _ k refl ∙ pick-key 2 _ _ k refl ∙ pick-key 3 _ _ k refl ∙ pick-key 4 _ _ k refl
+        ∙ tolerance-fault so fault (getD rest 1 0) .1 (subst (λ (n : ℕ). ToleranceFault n (numberOf fault)) (sym e) (x .3)))))
         c
 
     pub later-fault : (length rest ≡ length s → ⊥) → (recordOf s rest so ≡ Bad fault) ↔ RecordFault (records (readSheet s so)) rest (numberOf fault)
@@ -201,22 +251,24 @@ module _ (s rest : List ℕ) (octs : Every IsOctet rest) (fault : Fault) where
         let r = so .regions in
         let np = length-listed (λ (j : ℕ). asParam (parameterAt s r j)) 0 (so .parameters) in
         let ni = length-listed (λ (j : ℕ). identFrom s (4 + 10 * r + 8 * so .parameters + 35 * j)) 0 (so .items) in
+        let nt = length-listed (λ (n : ℕ). getD s (4 + 10 * r + 8 * so .parameters + 35 * so .items + 2 * n + 1) 0) 0 (so .tolerances) in
         let t : eqb (length rest) (length s) ≡ false = ne-eqb (length rest) (length s) away in
         decides _ Ended _ refl (λ b q. let l = eqb-true (length rest) 0 b in omega arith) (λ b₁.
         let l = eqb-false (length rest) 0 b₁ in
         passes (omega arith)
-        (decides _ Unknown _ refl (λ b q. let k = ltb-true 4 kind b in omega arith) (λ b₂.
-        passes (ltb-false 4 kind b₂)
+        (decides _ Unknown _ refl (λ b q. true≢false (sym b ∙ ap not (kind-back kind q))) (λ b₂.
+        let known = kind-there kind (not-false _ b₂) in
+        passes known
         (decides _ Misplaced _ refl
         (λ b (q : InPlace (records (readSheet s so)) kind).
         true≢false (sym b ∙ ap (λ (x : Bool). misplacedOf x kind so) t
-        ∙ place-in kind so (q .0) (λ e. sym np ∙ q .1 e) (λ e. sym ni ∙ q .2 e) (λ e. sym ni ∙ q .3 e))) (λ b₃.
+        ∙ place-in kind so (q .0) (λ e. sym np ∙ q .1 e) (λ e. sym ni ∙ q .2 e) (λ e. sym nt ∙ q .3 e) (λ e. sym ni ∙ q .4 e) (λ e. sym nt ∙ q .5 e) (λ e. sym nt ∙ q .6 e) (λ e. sym nt ∙ q .7 e))) (λ b₃.
         let i = in-place kind so (sym (ap (λ (x : Bool). misplacedOf x kind so) t) ∙ b₃) in
-        let size = size-same kind (ltb-false 4 kind b₂) in
-        passes (i .0, λ e. np ∙ i .1 e, λ e. ni ∙ i .2 e, λ e. ni ∙ i .3 e)
+        let size = size-same kind known in
+        passes (i .0, λ e. np ∙ i .1 e, λ e. ni ∙ i .2 e, λ e. nt ∙ i .3 e, λ e. ni ∙ i .4 e, λ e. nt ∙ i .5 e, λ e. nt ∙ i .6 e, λ e. nt ∙ i .7 e)
         (decides _ Ended _ refl (λ b q. let k = ltb-true (length rest) (sizeOf kind) b in omega (arith, size, q, k)) (λ b₄.
         let fits : recordLength kind ≤ length rest = let k = ltb-false (length rest) (sizeOf kind) b₄ in omega (arith, size, k) in
-        passes fits (body-there (ltb-false 4 kind b₂) (i .0) fits, body-back fits))))))))
+        passes fits (body-there (not-false _ b₂) (i .0) fits, body-back fits))))))))
 
 no-valid : {f : Fault} {p : ℕ} {lay : Layout} → Valid lay ≡ Faulty f p → ⊥
 no-valid e = let z : _≡_ {A = ℕ} 0 1 = cc in omega arith

@@ -30,7 +30,7 @@ use Rattle.slave.specs.Wanted.{differsAt, steppedOf}
 use Rattle.slave.proofs.Differs.{differs-most}
 use Rattle.slave.proofs.Order.{on-valid, on-invalid, on-state}
 use Rattle.law.specs.Words.{when, Every}
-use Rattle.law.specs.Sheet.{Sheet, WellFormed, sheetOctets, room}
+use Rattle.law.specs.Sheet.{Sheet, WellFormed, sheetOctets, room, allows}
 use Rattle.law.specs.State.{link, validState}
 use Rattle.law.specs.Memory.{cells}
 use Rattle.law.specs.Exchange.{fateOf}
@@ -39,6 +39,7 @@ use Rattle.law.specs.Trace.{Traced, Whole, Form, wholeRecords, fault, Ha
 use Rattle.law.proofs.Calls.{leaves, done-same}
 use Rattle.law.proofs.Clauses.{state-yes, state-no}
 use Rattle.law.proofs.Complete.{complete}
+use Rattle.law.proofs.Worlds.{few-first}
 use Rattle.law.proofs.Held.{length-cells, stored-length}
 use Rattle.law.proofs.Laid.{when-yes, when-no}
 use Rattle.law.proofs.Layouts.{layoutFor}
@@ -59,7 +60,7 @@ module _ (h : Sheet) (w : WellFormed h) where
   record Ready (s m : List ℕ) : Type 0 where
     pub st : LinkState
     pub record-of : s ≡ octetsOf st
-    pub facts : Facts (h .l) st
+    pub facts : Facts (h .l) (allows h) st
     pub on : st .link ≡ 0 → ⊥
     pub whole : length m ≡ room (h .regions)
 
@@ -86,7 +87,7 @@ module _ (h : Sheet) (w : WellFormed h) where
         record {
           st = o .next;
           record-of = sym (ap (λ (x : Result). x .state) is-done);
-          facts = outcome-valid (sheetOctets h) (layoutFor h) (ready .st) (commandOf c) (h .l) (ready .facts) one;
+          facts = outcome-valid (sheetOctets h) (layoutFor h) (ready .st) (commandOf c) (h .l) (ready .facts) one (omega (arith, few-first (h .tolerances) (w .tolerances)));
           on = λ z. let k : ⊥ = omega arith in k;
           whole = stored-length (fateOf h s m c .stores) (cells (h .regions)) m fit ∙ ready .whole;
         }
@@ -96,7 +97,7 @@ module _ (h : Sheet) (w : WellFormed h) where
       machine-done : leaves (exchangeOf (sheetOctets h) s m c r) ≡ after
       machine-done =
           ap leaves (is-exchanged (sheetOctets h) s m c r (layoutFor h) (complete h w) (ready .st)
-          (ap (λ (x : List ℕ). stateOf x (h .l)) (ready .record-of) ∙ read-back (ready .st) (h .l) (ready .facts)) (ready .whole) asked lent (ready .on))
+          (ap (λ (x : List ℕ). stateOf x (h .l) (allows h)) (ready .record-of) ∙ read-back (ready .st) (h .l) (allows h) (ready .facts)) (ready .whole) asked lent (ready .on))
           ∙ is-done
 
       same-at : differsAt (exchangeOf (sheetOctets h) s m c r .reply) r ≡ alike (after .reply) r
@@ -165,7 +166,7 @@ module _ (h : Sheet) (w : WellFormed h) where
       (pick (not (eqb (checkedForm (h .l) trace .number) 0)) (replayed (checkedForm (h .l) trace) s m)
       (playOf (sheetOctets h) (h .l) 0 s m (tracedOf (h .l) trace))))
 
-  behind-same : (s m trace : List ℕ) (st : LinkState) → s ≡ octetsOf st → Facts (h .l) st → (form : Form) → HasForm (h .l) trace form
+  behind-same : (s m trace : List ℕ) (st : LinkState) → s ≡ octetsOf st → Facts (h .l) (allows h) st → (form : Form) → HasForm (h .l) trace form
       → leavesReplay (behind s m trace st)
       ≡ when (not (eqb (length m) (room (h .regions)))) (result 2 0 s m [])
       (when (eqb (st .link) 0) (result 5 0 s m [])

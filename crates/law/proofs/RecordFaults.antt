@@ -21,7 +21,7 @@ use Rattle.regions.proofs.Spans.{before-all, all-before}
 use Rattle.regions.specs.declared.Region.{Region}
 use Rattle.sheet.specs.Entries.{parameterAt, itemFrom}
 use Rattle.sheet.specs.Faults.{numberOf}
-use Rattle.sheet.specs.Judging.{judgedRegion, judgedParameter, judgedItem}
+use Rattle.sheet.specs.Judging.{judgedRegion, judgedParameter, judgedItem, judgedTolerance}
 use Rattle.sheet.specs.Kinds.{endBefore, leastNumber, leastCode}
 use Rattle.sheet.specs.Reading.{tailOf}
 use Rattle.sheet.specs.declared.entries.Parameter.{Parameter}
@@ -31,10 +31,10 @@ use Rattle.sheet.specs.declared.records.Fault.the-variants.{Range, Disorder, Ex
 use Rattle.sheet.specs.declared.records.Reading.the-variants.{Bad}
 use Rattle.law.specs.Words.{Every, InARow, Some}
 use Rattle.law.specs.Sheet.{Region as Area, Parameter as Param, Item as Ident, GoodRegion, GoodItem, IsOctet, InRegion, room}
-use Rattle.law.specs.Faults.{RegionFault, ParameterFault, ItemFault}
+use Rattle.law.specs.Faults.{RegionFault, ParameterFault, ItemFault, ToleranceFault}
 use Rattle.law.proofs.Checks.{decides, passes, no-more, row-more, row-last, sum-more}
 use Rattle.law.proofs.Front.{readSheet, grants-has, zeros-back, octet-at, octets-drop, octets-take, drop-take}
-use Rattle.law.proofs.Complete.{zeros-zero}
+use Rattle.law.proofs.Readings.{zeros-zero}
 use Rattle.law.proofs.Layouts.{asArea, asParam, identFrom}
 use Rattle.law.proofs.Listed.{length-listed}
 
@@ -65,6 +65,11 @@ lower-least n last x l =
 
 least-lower : (n last x : ℕ) → pick (eqb n 0) 0 (last + 1) ≤ x → (n ≡ 0 → ⊥) → last < x
 least-lower n last x l z = let q : last + 1 ≤ x = subst (λ (k : ℕ). k ≤ x) (pick-ne _ _ z) l in omega arith
+
+-- request 9's record has one check
+pub tolerance-fault : (so : Counts) (fault : Fault) (x : ℕ) → (judgedTolerance x so ≡ Bad fault) ↔ ToleranceFault x (numberOf fault)
+unfolding judgedTolerance numberOf
+tolerance-fault so fault x = decides _ Range _ refl (λ t q. let e = ltb-true 3 x t in omega (arith, q, e)) (λ t. passes (ltb-false 3 x t) no-more)
 
 module _ (s : List ℕ) (so : Counts) (fault : Fault) (memory : room (readSheet s so .regions) ≡ so .memory)
     (numbers : InARow (λ (a b : Param). a .number < b .number) (readSheet s so .parameters)) where

@@ -16,9 +16,9 @@ use Rattle.frame.proofs.Bodies.{body-behind}
 use Rattle.frame.proofs.Named.{command-named}
 use Rattle.frame.proofs.Replies.{whole, head-told, body-at}
 use Rattle.law.specs.Words.{when, piece, laid, over}
-use Rattle.law.specs.Sheet.{Sheet}
+use Rattle.law.specs.Sheet.{Sheet, allows}
 use Rattle.law.specs.Table.{Check, Row, table}
-use Rattle.law.specs.Exchange.{Fate, code, mn, identity, refused, checked, judged, fateOf, stateAfter, headFor, replyFor}
+use Rattle.law.specs.Exchange.{Fate, code, mn, identity, refused, checked, judged, fateOf, stateAfter, headFor, replyFor, tolerated, lost}
 use Rattle.link.specs.Stored.{octetsOf}
 use Rattle.link.specs.Valid.{isCommunicationAlarm}
 use Rattle.link.specs.declared.state.LinkState.{LinkState}
@@ -69,7 +69,8 @@ judged-small s code (r ∷ rs) e =
 
 pub fate-small : (h : Sheet) (s m c : List ℕ) → Small (fateOf h s m c)
 unfolding fateOf
-fate-small h s m c = when-both Small _ (let z : 0 < 16 = omega arith in z) (judged-small s (code c) (table h s m c) refl)
+fate-small h s m c =
+    when-both Small _ (when-both Small _ {x = tolerated s} {y = lost} (let z : 0 < 16 = omega arith in z) (let z : 0 < 16 = omega arith in z)) (judged-small s (code c) (table h s m c) refl)
 
 small-latch : (co : ℕ) → isCommunicationAlarm co ≡ true → co < 16
 unfolding isCommunicationAlarm
@@ -82,7 +83,7 @@ small-latch co e =
 
 -- the reply, octet by octet: the head's four by the frame's laws, and behind them the row's pieces
 module _ (h : Sheet) (sheet : List ℕ) (st : LinkState) (m c : List ℕ) (o : Outcome) (f : Fate) (same : Same h sheet st m c o f) (small : f .alarm < 16)
-    (v : Facts (h .l) (o .next)) (asked : length c ≡ h .l) (long : 8 ≤ h .l) (fits : Fitting (o .effect) (length c) (length m) (length sheet)) where
+    (v : Facts (h .l) (allows h) (o .next)) (asked : length c ≡ h .l) (long : 8 ≤ h .l) (fits : Fitting (o .effect) (length c) (length m) (length sheet)) where
   abbrev t : List ℕ
   t = stateAfter (octetsOf st) (mn c) (f .changes)
 
@@ -102,10 +103,15 @@ module _ (h : Sheet) (sheet : List ℕ) (st : LinkState) (m c : List ℕ) (o : O
       let rsn = v .rsn in
       let alarm = same .alarm in
       let quiet = eqb (o .next .latches .command) 0 && eqb (o .next .latches .communication) 0 in
+      let none = eqb (o .next .watch .failures) 0 in
       let high = o .alarm + 16 * o .next .latches .communication in
       head-told sheet m c o long-enough fits (omega arith) (omega arith) (small-latch (o .next .latches .communication) (v .communication)) k l
-      ∙ ap (λ (x : Command). getD (x .code ∷ pick (eqb (o .next .link) 3) (16 * o .next .watch .rsn + x .wdt % 16) 0 ∷ (4 + pick quiet 0 1 + 64 * (x .identity % 4)) ∷ high ∷ []) k 0) (command-named c)
-      ∙ ap₂ (λ (r b : ℕ). getD (code c ∷ r ∷ (4 + b + 64 * identity c) ∷ high ∷ []) k 0) (picked (eqb (o .next .link) 3) (16 * o .next .watch .rsn + mn c) 0) (picked quiet 0 1)
+      ∙ ap (λ (x : Command). getD (x .code ∷ pick (eqb (o .next .link) 3) (16 * o .next .watch .rsn + x .wdt % 16) 0
+      ∷ (4 + pick quiet 0 1 + pick none 0 2 + 64 * (x .identity % 4)) ∷ high ∷ []) k 0) (command-named c)
+      ∙ ap₂ (λ (r b : ℕ). getD (code c ∷ r ∷ (4 + b + pick none 0 2 + 64 * identity c) ∷ high ∷ []) k 0)
+      (picked (eqb (o .next .link) 3) (16 * o .next .watch .rsn + mn c) 0) (picked quiet 0 1)
+      ∙ ap (λ (b : ℕ). getD (code c ∷ when (eqb (o .next .link) 3) (16 * o .next .watch .rsn + mn c) 0 ∷ (4 + when quiet 0 1 + b + 64 * identity c) ∷ high ∷ []) k 0)
+      (picked none 0 2)
 
   head-is : head (octetsOf (o .next)) (o .alarm) ≡ head t (f .alarm)
   head-is = ap₂ head (same .next) (same .alarm)

@@ -17,11 +17,11 @@ use Rattle.frame.proofs.Named.{named, Tells, whole-at, number-at, size-at, item
 use Rattle.frame.proofs.Rooms.{parameter-least, memory-room}
 use Rattle.law.proofs.Layouts.{layoutFor}
 use Rattle.law.specs.Words.{when, oneOf, Piece, piece, laid}
-use Rattle.law.specs.Sheet.{Item as Ident, Sheet}
+use Rattle.law.specs.Sheet.{Item as Ident, Sheet, allows}
 use Rattle.law.specs.State.{link}
 use Rattle.law.specs.Memory.{cells, stored, held, hasAll, mapped}
 use Rattle.law.specs.Table.{Check, check, rightsCheck, Row, row, table, parameterChecks as paramChecks, memoryChecks as memChecks, number, parameter as param, item as ident, count, address, n as span, element}
-use Rattle.law.specs.Exchange.{Fate, fate, code, mn, refused, checked}
+use Rattle.law.specs.Exchange.{Fate, fate, code, mn, refused, checked, passing}
 use Rattle.link.specs.Steps.{cleared}
 use Rattle.link.specs.Stored.{octetsOf}
 use Rattle.link.specs.declared.state.LinkState.{LinkState}
@@ -49,7 +49,7 @@ use Rattle.machine.specs.declared.words.Judgement.{Judgement}
 use Rattle.machine.specs.declared.words.Judgement.the-variants.{Refused, Accepted}
 use Rattle.machine.specs.declared.words.Outcome.{Outcome}
 use Rattle.law.proofs.Laid.{stored-none, laid-one, laid-two}
-use Rattle.law.proofs.Goes.{connect-goes, Goes, goes-kept, goes-latched, goes-cleared}
+use Rattle.law.proofs.Goes.{connect-goes, Moves, Goes, goes-kept, goes-latched, goes-cleared}
 use Rattle.law.proofs.Layouts.{asRegion}
 use Rattle.law.proofs.Fields.{less-not, none-not, two-octets, com-mod, com-mods, com-time, param-found, param-missing, four-octets, elements}
 use Rattle.law.proofs.World.{nth, pieceAt, dataPiece, written, World, mapped-is}
@@ -59,16 +59,16 @@ module _ (h : Sheet) (sheet : List ℕ) (st : LinkState) (m c : List ℕ) where
   pub record Same (o : Outcome) (f : Fate) : Type 0 where
     pub alarm : o .alarm ≡ f .alarm
     pub place : placeOf (o .field) ≡ f .place
-    pub next : Goes st (o .next) (mn c) (f .changes)
+    pub next : Moves st (o .next) (mn c) (f .changes)
     pub body : (k old : ℕ) → bodyAt (o .effect) sheet m c k old ≡ laid (f .body) k old
     pub memory : memoryAfter (o .effect) c m ≡ stored (f .stores) (cells (h .regions)) m
 
-  module _ (facts : Facts (h .l) st) (on : st .link ≡ 0 → ⊥) (world : World h sheet m) (asked : length c ≡ h .l) where
+  module _ (facts : Facts (h .l) (allows h) st) (on : st .link ≡ 0 → ⊥) (world : World h sheet m) (asked : length c ≡ h .l) where
     whole : length m ≡ length (cells (h .regions))
     whole = world .whole
 
     pub record J (j : Judgement) (f : Fate) : Type 0 where
-      pub same : Same (finished st (named (code c) c) j) f
+      pub same : Same (finished st (named (code c) c) j) (passing f)
 
     abbrev s : List ℕ
     s = octetsOf st

@@ -47,6 +47,7 @@ reached s v h w =
       regions = λ i l. absurd (let k : ⊥ = omega arith in k);
       parameters = λ i l. absurd (let k : ⊥ = omega arith in k);
       items = λ i l. absurd (let k : ⊥ = omega arith in k);
+      tolerances = λ i l. absurd (let k : ⊥ = omega arith in k);
     })
     v (omega arith) w
 

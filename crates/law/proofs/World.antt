@@ -6,7 +6,7 @@ use Prim.Native.Nat.{ℕ, zero, suc, _+_, _≤_}
 use lib.ListN.{length, take, drop}
 use Rattle.octets.specs.Parts.{part, putAt}
 use Rattle.law.specs.Words.{oneOf, Piece, piece}
-use Rattle.law.specs.Sheet.{Item as Ident, Sheet}
+use Rattle.law.specs.Sheet.{Item as Ident, Sheet, allows}
 use Rattle.law.specs.Memory.{Cell, cells, stored, held, hasAll, mapped}
 use Rattle.law.specs.Table.{Row, row, itemOf as identOf}
 use Rattle.regions.specs.Region.{regionsOf, givesOf}
@@ -50,6 +50,7 @@ pub record World (h : Sheet) (sheet m : List ℕ) : Type 0 where
   pub parameters : parametersOf sheet (length (h .regions)) (length (h .parameters)) ≡ map asParameter (h .parameters)
   pub items : (n : ℕ) → ItemSame (itemsOf sheet (length (h .regions)) (length (h .parameters)) (length (h .items))) (h .items) sheet n
   pub long : 8 ≤ h .l
+  pub few : allows h ≤ 3
   pub whole : length m ≡ length (cells (h .regions))
   pub reads : (a n : ℕ) → hasAll mapped (cells (h .regions)) a n ≡ true → part m (spanPlace (map asRegion (h .regions)) a n) n ≡ held (cells (h .regions)) m a n
   pub writes : (a n : ℕ) (o : List ℕ) → hasAll mapped (cells (h .regions)) a n ≡ true → length o ≡ n

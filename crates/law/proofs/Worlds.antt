@@ -13,10 +13,10 @@ use Rattle.octets.specs.Parts.{part}
 use Rattle.octets.proofs.Cases.{eq-or-ne}
 use Rattle.octets.proofs.Pick.{pick-eq, pick-ne}
 use Rattle.law.specs.Words.{Every, joined, oneOf}
-use Rattle.law.specs.Sheet.{Item as Ident, Sheet, GoodItem, WellFormed, FiveLengths, room, sheetOctets, parameterOctets, itemOctets}
+use Rattle.law.specs.Sheet.{Item as Ident, Sheet, GoodItem, WellFormed, FiveLengths, room, sheetOctets, parameterOctets, itemOctets, toleranceOctets}
 use Rattle.law.specs.Memory.{mapped}
 use Rattle.law.specs.Table.{itemOf as identOf}
-use Rattle.law.proofs.Complete.{regions-listed}
+use Rattle.law.proofs.Readings.{regions-listed}
 use Rattle.law.proofs.Exact.{read-back}
 use Rattle.law.proofs.Front.{drop-take, readSheet}
 use Rattle.regions.specs.Region.{listed}
@@ -91,6 +91,10 @@ least l h =
     ⊎-elim (λ (e : l ≡ 8). let w : 8 ≤ l = omega arith in w) (⊎-elim (λ (e : l ≡ 16). let w : 8 ≤ l = omega arith in w) (⊎-elim (λ (e : l ≡ 32). let w : 8 ≤ l = omega arith in w)
     (⊎-elim (λ (e : l ≡ 48). let w : 8 ≤ l = omega arith in w) (λ (e : l ≡ 64). let w : 8 ≤ l = omega arith in w)))) h
 
+pub few-first : (ts : List ℕ) → Every (λ (n : ℕ). n ≤ 3) ts → getD ts 0 0 ≤ 3
+few-first [] e = omega arith
+few-first (t ∷ ts) e = e .0
+
 pub world-of : (h : Sheet) → WellFormed h → (m : List ℕ) → length m ≡ room (h .regions) → World h (sheetOctets h) m
 world-of h w m e =
     let s = sheetOctets h in
@@ -102,11 +106,12 @@ world-of h w m e =
     let apart = apart-good (h .regions) (w .regions) (w .apart) in
     let whole = e ∙ sym (length-cells (h .regions)) in
     record {
-      regions = regions-listed s (h .regions) (joined parameterOctets (h .parameters) ++ (joined itemOctets (h .items) ++ 0 ∷ [])) 0 refl (w .regions);
+      regions = regions-listed s (h .regions) (joined parameterOctets (h .parameters) ++ (joined itemOctets (h .items) ++ (joined toleranceOctets (h .tolerances) ++ 0 ∷ []))) 0 refl (w .regions);
       parameters = sym (parameters-back (parameterAt s r) 0 p) ∙ ap (λ (x : Sheet). map asParameter (x .parameters)) back;
       items = λ n. subst (λ (l : List Ident). ItemSame (itemsOf s r p k) l s n) ids
           (items-same s r p 0 k n (subst (λ (l : List Ident). Every (λ (i : Ident). i .length ≤ 32) l) (sym ids) (sizes (h .items) (w .items))));
       long = least (h .l) (w .l);
+      few = few-first (h .tolerances) (w .tolerances);
       whole = whole;
       reads = λ a n q. reads-same (h .regions) apart m whole a n (sym (all-span mapped Mapped mapped-is (h .regions) a n) ∙ q);
       writes = λ a n o q l. writes-same (h .regions) apart m whole a n (sym (all-span mapped Mapped mapped-is (h .regions) a n) ∙ q) o l;

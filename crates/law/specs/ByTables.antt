@@ -7,9 +7,9 @@ use mathlib.Core.Path.{_≡_}
 use Rattle.law.specs.Words.{Every}
 use Rattle.law.specs.Sheet.{Sheet, WellFormed, FiveLengths, IsOctet, sheetOctets}
 use Rattle.law.specs.Faults.{FirstFault}
-use Rattle.law.specs.Calls.{Result, result, sheetTold, lengths, reset, enable, exchange}
+use Rattle.law.specs.Calls.{Result, result, sheetTold, lengths, reset, enable, turn, exchange}
 use Rattle.law.specs.Trace.{Form, HasForm, replay}
-use Rattle.law.specs.Promises.{SheetPromise, LengthsPromise, ResetPromise, EnablePromise, ExchangePromise, ReplayPromise}
+use Rattle.law.specs.Promises.{SheetPromise, LengthsPromise, ResetPromise, EnablePromise, TurnPromise, ExchangePromise, ReplayPromise}
 
 -- what a host has after a call; [] for a buffer that the call has not
 abbrev pub hostHas : ℕ → List ℕ → List ℕ → List ℕ → Result
@@ -45,6 +45,9 @@ pub record ByTables : Type 0 where
   pub enables : (sheet s : List ℕ) (a : ℕ) (s′ : List ℕ) → Every IsOctet sheet
       → EnablePromise sheet s a s′
       ↔ ByLaw sheet (λ h x. x ≡ enable h s) (λ f place. result f place s [] []) (hostHas a s′ [] [])
+  pub turns : (sheet o s : List ℕ) (a : ℕ) (s′ : List ℕ) → Every IsOctet sheet
+      → TurnPromise sheet o s a s′
+      ↔ ByLaw sheet (λ h x. x ≡ turn h o s) (λ f place. result f place s [] []) (hostHas a s′ [] [])
   pub exchanges : (sheet s m c r : List ℕ) (a : ℕ) (s′ m′ r′ : List ℕ) → Every IsOctet sheet
       → ExchangePromise sheet s m c r a s′ m′ r′
       ↔ ByLaw sheet (λ h x. x ≡ exchange h s m c r) (λ f place. result f place s m r) (hostHas a s′ m′ r′)

@@ -2,12 +2,12 @@
 -- 17". "That the buffers are distinct is the host's duty": here they are lists of their own.
 use Prim.Native.Nat.{ℕ, _+_, _*_}
 use mathlib.Core.Bool.{not}
-use mathlib.Core.List.{List, [], _∷_}
+use mathlib.Core.List.{List, [], _∷_, _++_}
 use lib.Dec.{eqb}
-use lib.ListN.{length}
+use lib.ListN.{length, drop}
 use Rattle.law.specs.Words.{when, piece, over}
 use Rattle.law.specs.Sheet.{Sheet, room}
-use Rattle.law.specs.State.{link, validState}
+use Rattle.law.specs.State.{link, validState, validOld}
 use Rattle.law.specs.Memory.{cells, stored}
 use Rattle.law.specs.Exchange.{Fate, mn, fateOf, stateAfter, replyFor}
 
@@ -30,11 +30,12 @@ sheetTold h = result 0 0 [] [] []
 abbrev pub lengths : Sheet → Result
 lengths h = result (h .l) (room (h .regions)) [] [] []
 
--- "Reset asks only a good sheet and a state buffer of ten octets, with any content; it writes Disabled with the sheet's L and zeros."
+-- "Reset asks only a good sheet and a state buffer .., with any content; it writes Disabled with the sheet's L and zeros"; request 9: "Reset writes the new
+-- record, into eleven octets."
 unfoldable pub reset : Sheet → List ℕ → Result
 reset h s =
-    when (not (eqb (length s) 10)) (result 1 0 s [] [])
-    (result 0 0 (0x11 ∷ 0 ∷ h .l ∷ 0 ∷ 0 ∷ 0 ∷ 0 ∷ 0 ∷ 0 ∷ 0 ∷ []) [] [])
+    when (not (eqb (length s) 11)) (result 1 0 s [] [])
+    (result 0 0 (0x12 ∷ 0 ∷ h .l ∷ 0 ∷ 0 ∷ 0 ∷ 0 ∷ 0 ∷ 0 ∷ 0 ∷ 0 ∷ []) [] [])
 
 -- "1: state record of wrong length or not valid", "6: enable when not Disabled"; "Enable turns Disabled into Disconnected."
 unfoldable pub enable : Sheet → List ℕ → Result
@@ -42,6 +43,13 @@ enable h s =
     when (not (validState h s)) (result 1 0 s [] [])
     (when (not (eqb (link s) 0)) (result 6 0 s [] [])
     (result 0 0 (over (piece 1 (1 ∷ []) ∷ []) s) [] []))
+
+-- "A call turns a valid old record into a new one. .. 1 .. in the turning call, a bad old record or other than eleven octets for the new"
+unfoldable pub turn : Sheet → List ℕ → List ℕ → Result
+turn h old s =
+    when (not (validOld h old)) (result 1 0 s [] [])
+    (when (not (eqb (length s) 11)) (result 1 0 s [] [])
+    (result 0 0 (0x12 ∷ drop 1 old ++ 0 ∷ []) [] []))
 
 -- an exchange with none of the refusals below, whose command may still get an alarm: the fate of its command, done. Request 3: "The exchange's place, so
 -- far 0 for a built reply, shall be the first octet of the field that failed"; Table says what it is for alarm 10, and where it is 0

@@ -2,11 +2,11 @@
 use Prim.Native.Nat.{ℕ, _+_, _*_, _/_, _%_}
 use mathlib.Core.Bool.{Bool, not, _&&_}
 use mathlib.Core.List.{List, [], _∷_}
-use lib.Dec.{eqb}
+use lib.Dec.{eqb, ltb}
 use lib.ListN.{replicate}
 use Rattle.law.specs.Words.{when, oneOf, octet, Piece, piece, over}
-use Rattle.law.specs.Sheet.{Sheet}
-use Rattle.law.specs.State.{link, mnKnown, lastMn, rsn, commandLatch, communicationLatch}
+use Rattle.law.specs.Sheet.{Sheet, allows}
+use Rattle.law.specs.State.{link, mnKnown, lastMn, rsn, commandLatch, communicationLatch, failures}
 use Rattle.law.specs.Table.{Check, check, Row, table}
 
 -- "Command: octet 0 code, octet 1 WDT (low half MN, high half SN), octets 2 and 3 control, ignored"; request 1: bits 6 and 7 of octet 2 are the identity
@@ -54,21 +54,29 @@ judged s code (r ∷ rs) = when (eqb code (r .code)) (checked s (check (oneOf (l
 abbrev pub lost : Fate
 lost = fate 0 0 (piece 1 (2 ∷ []) ∷ piece 9 (12 ∷ []) ∷ []) [] []
 
+-- request 9: "Within it the command isn't executed, the reply has a zero body, alarm 0 .., link and latches stay, MN is taken as last MN and RSN advances."
+abbrev pub tolerated : List ℕ → Fate
+tolerated s = fate 0 0 (piece 10 ((failures s + 1) ∷ []) ∷ []) [] []
+
+-- "An exchange that passes check 1 sets the count to 0"
+abbrev pub passing : Fate → Fate
+passing f = fate (f .alarm) (f .place) (piece 10 (0 ∷ []) ∷ f .changes) (f .body) (f .stores)
+
 abbrev pub missed : List ℕ → List ℕ → Bool
 missed s c = eqb (link s) 3 && (eqb (mnKnown s) 1 && not (eqb (mn c) ((lastMn s + 1) % 16) && eqb (sn c) (rsn s)))
 
 unfoldable pub fateOf : Sheet → List ℕ → List ℕ → List ℕ → Fate
 fateOf h s m c =
     when (missed s c)
-    lost
-    (judged s (code c) (table h s m c))
+    (when (ltb (failures s) (allows h)) (tolerated s) lost)
+    (passing (judged s (code c) (table h s m c)))
 
 -- "An exchange that begins and ends in link 3 stores MN as known and adds 1 to RSN modulo 16, refused or not. .. On entry to link 3 MN is not known and
--- RSN is 0; on leaving it those fields and dual become 0." `sent` is the command's MN
+-- RSN is 0; on leaving it those fields and dual become 0", and so does the count. `sent` is the command's MN
 unfoldable pub watched : ℕ → ℕ → List ℕ → ℕ → List Piece
 watched linkBefore linkAfter s sent =
     when (eqb linkBefore 3)
-    (when (eqb linkAfter 3) (piece 5 (1 ∷ sent ∷ (rsn s + 1) % 16 ∷ []) ∷ []) (piece 3 (0 ∷ []) ∷ piece 5 (0 ∷ 0 ∷ 0 ∷ []) ∷ []))
+    (when (eqb linkAfter 3) (piece 5 (1 ∷ sent ∷ (rsn s + 1) % 16 ∷ []) ∷ []) (piece 3 (0 ∷ []) ∷ piece 5 (0 ∷ 0 ∷ 0 ∷ []) ∷ piece 10 (0 ∷ []) ∷ []))
     (when (eqb linkAfter 3) (piece 5 (0 ∷ 0 ∷ 0 ∷ []) ∷ []) [])
 
 -- the state record afterwards
@@ -82,7 +90,8 @@ headFor c alarm t =
     let rwdt = when (eqb (link t) 3) (16 * rsn t + mn c) 0 in
     -- "Status bit 0 is set if a latch is nonzero after the exchange; bit 2 is always set"; request 1: "Bits 6 and 7 of command octet 2 shall come back in
     -- those bits of reply octet 2, in every built reply."
-    let low = 4 + when (eqb (commandLatch t) 0 && eqb (communicationLatch t) 0) 0 1 + 64 * identity c in
+    -- Request 9: in a tolerated failure "status bit 1 set"; behind any other exchange the count is 0.
+    let low = 4 + when (eqb (commandLatch t) 0 && eqb (communicationLatch t) 0) 0 1 + when (eqb (failures t) 0) 0 2 + 64 * identity c in
     -- "bits 8 to 11 are this command's alarm, 0 if accepted; bits 12 to 15 the communication latch after the exchange; the rest 0"
     let high = alarm + 16 * communicationLatch t in
     code c ∷ rwdt ∷ low ∷ high ∷ []

@@ -5,7 +5,7 @@ use mathlib.Core.Logic.{_⊎_}
 use mathlib.Core.Path.{_≡_}
 use lib.ListN.{length, getD}
 use Rattle.law.specs.Words.{FaultUnless, NoMore}
-use Rattle.law.specs.Sheet.{Region, Parameter, Item, Sheet, GoodRegion, GoodItem, WellFormed, FiveLengths, Apart, NumbersRise, CodesRise, Spanned, FewRegions, FewParameters, FewItems, regionOctets, parameterOctets, itemOctets, written}
+use Rattle.law.specs.Sheet.{Region, Parameter, Item, Sheet, GoodRegion, GoodItem, WellFormed, FiveLengths, Apart, NumbersRise, CodesRise, Spanned, FewRegions, FewParameters, FewItems, regionOctets, parameterOctets, itemOctets, toleranceOctets, written}
 
 -- what stands before the record at fault: nothing, or records of which a sheet could consist
 pub data Sofar : Type 0 where
@@ -21,22 +21,32 @@ abbrev pub GoodSofar : Sofar → Type 0
 GoodSofar nothing = Unit {0}
 GoodSofar (records h) = WellFormed h
 
--- "The link record comes first and once; then regions, parameters, ID items, end": an end record first is out of place too
+-- "The link record comes first and once; then regions, parameters, ID items, end": an end record first is out of place too. The tolerance comes "after the
+-- ID items and at most once"
 abbrev pub InPlace : Sofar → ℕ → Type 0
 InPlace nothing kind = kind ≡ 1
 InPlace (records h) kind =
     (kind ≡ 1 → ⊥)
     × (kind ≡ 2 → length (h .parameters) ≡ 0)
     × (kind ≡ 2 → length (h .items) ≡ 0)
+    × (kind ≡ 2 → length (h .tolerances) ≡ 0)
     × (kind ≡ 3 → length (h .items) ≡ 0)
+    × (kind ≡ 3 → length (h .tolerances) ≡ 0)
+    × (kind ≡ 4 → length (h .tolerances) ≡ 0)
+    × (kind ≡ 6 → length (h .tolerances) ≡ 0)
 
--- "a body whose length the kind fixes": the octets of a record of kind 0 to 4, the kind octet among them
+-- the kinds that there are
+abbrev pub Kind : ℕ → Type 0
+Kind kind = (kind ≤ 4) ⊎ (kind ≡ 6)
+
+-- "a body whose length the kind fixes": the octets of a record of kind 0 to 4 or 6, the kind octet among them
 abbrev pub recordLength : ℕ → ℕ
 recordLength zero = 1
 recordLength (suc zero) = 4
 recordLength (suc (suc zero)) = 10
 recordLength (suc (suc (suc zero))) = 8
-recordLength (suc (suc (suc (suc n)))) = 35
+recordLength (suc (suc (suc (suc zero)))) = 35
+recordLength (suc (suc (suc (suc (suc n))))) = 2
 
 -- "field range (14), too many records or too much memory (16), order or overlap (15), parameter span (17)"
 abbrev pub RegionFault : Sheet → Region → ℕ → Type 0
@@ -61,19 +71,23 @@ ItemFault h i =
     (FaultUnless 15 (CodesRise (h .items ++ i ∷ []))
     NoMore))
 
+abbrev pub ToleranceFault : ℕ → ℕ → Type 0
+ToleranceFault n = FaultUnless 14 (n ≤ 3) NoMore
+
 -- the record that `rest` begins with, its numbers fitting their octets, and its fault
 abbrev pub BodyFault : Sofar → List ℕ → ℕ → Type 0
 BodyFault nothing rest f = FaultUnless 14 (FiveLengths (getD rest 1 0)) NoMore f
 BodyFault (records h) rest f =
     ((r : Region) × (t : List ℕ) × (rest ≡ regionOctets r ++ t) × (r .start < 4294967296) × (r .length < 4294967296) × RegionFault h r f)
     ⊎ (((p : Parameter) × (t : List ℕ) × (rest ≡ parameterOctets p ++ t) × (p .number < 65536) × (p .address < 4294967296) × ParameterFault h p f)
-    ⊎ ((i : Item) × (t : List ℕ) × (rest ≡ itemOctets i ++ t) × (length (i .octets) ≡ 32) × ItemFault h i f))
+    ⊎ (((i : Item) × (t : List ℕ) × (rest ≡ itemOctets i ++ t) × (length (i .octets) ≡ 32) × ItemFault h i f)
+    ⊎ ((n : ℕ) × (t : List ℕ) × (rest ≡ toleranceOctets n ++ t) × ToleranceFault n f)))
 
 -- "sheet ended before an end record (11), unknown kind (12), kind out of place (13), body cut short (11)", then the record's own
 abbrev pub RecordFault : Sofar → List ℕ → ℕ → Type 0
 RecordFault x rest =
     FaultUnless 11 (1 ≤ length rest)
-    (FaultUnless 12 (getD rest 0 0 ≤ 4)
+    (FaultUnless 12 (Kind (getD rest 0 0))
     (FaultUnless 13 (InPlace x (getD rest 0 0))
     (FaultUnless 11 (recordLength (getD rest 0 0) ≤ length rest)
     (BodyFault x rest))))

@@ -1,4 +1,4 @@
--- What the six calls of type24/src/lib.rt promise. Each promise is one equation, between what a host has after the call and what it lent; and it is the
+-- What the calls of type24/src/lib.rt promise. Each promise is one equation, between what a host has after the call and what it lent; and it is the
 -- whole contract of the function that is called (`Promises`), which asks nothing but what its parameters' types ask: buffers that are there, each that may be
 -- written distinct from all others.
 use Prim.Native.Nat.{ℕ}
@@ -18,13 +18,15 @@ use denote.Triple.Entry.{Args, Res}
 use Rattle.replay.specs.Replay.{replayOf}
 use Rattle.sheet.specs.Walk.{verdictOf}
 use Rattle.slave.specs.Answers.{sheetAnswer}
-use Rattle.slave.specs.Calls.{resetOf, enableOf}
+use Rattle.slave.specs.Calls.{resetOf, enableOf, turnOf}
 use Rattle.slave.specs.Exchange.{exchangeOf}
 use Rattle.type24.specs.Packed.{packed, packedAfter, afterCall, packedLeft, leftByCall, lengthsOf, packedReplay, byReplay}
 use Rattle.type24.proofs.t24_sheet as t24-sheet
 use Rattle.type24.proofs.t24_lengths as t24-lengths
 use Rattle.type24.proofs.t24_reset as t24-reset
 use Rattle.type24.proofs.t24_enable as t24-enable
+use Rattle.type24.proofs.t24_turn as t24-turn
+use Rattle.type24.proofs.t24_version as t24-version
 use Rattle.type24.proofs.t24_exchange as t24-exchange
 use Rattle.type24.proofs.t24_replay as t24-replay
 
@@ -40,6 +42,13 @@ ResetPromise sheet s a s′ = packedAfter a s′ ≡ afterCall (resetOf sheet s)
 
 abbrev pub EnablePromise : List ℕ → List ℕ → ℕ → List ℕ → Type 0
 EnablePromise sheet s a s′ = packedAfter a s′ ≡ afterCall (enableOf sheet s)
+
+-- o is an old state record
+abbrev pub TurnPromise : List ℕ → List ℕ → List ℕ → ℕ → List ℕ → Type 0
+TurnPromise sheet o s a s′ = packedAfter a s′ ≡ afterCall (turnOf sheet o s)
+
+abbrev pub VersionPromise : ℕ → Type 0
+VersionPromise a = a ≡ 2
 
 abbrev pub ExchangePromise : List ℕ → List ℕ → List ℕ → List ℕ → List ℕ → ℕ → List ℕ → List ℕ → List ℕ → Type 0
 ExchangePromise sheet s m c r a s′ m′ r′ = packedLeft a s′ m′ r′ ≡ leftByCall (exchangeOf sheet s m c r)
@@ -62,6 +71,10 @@ pub record Promises {M : Type 1} (𝓤 : URA M) (H : Heap 𝓤) (A : Atoms 𝓤)
       ≡ closing 𝓤 H A t24-reset.ended (Only 𝓤 t24-reset.ended (λ κs lent a after. ResetPromise (now (lent .0)) (now (lent .1 .0)) a (now (after .1 .0))))
   pub of-enable : t24-enable.spec 𝓤 H A mem run
       ≡ closing 𝓤 H A t24-enable.ended (Only 𝓤 t24-enable.ended (λ κs lent a after. EnablePromise (now (lent .0)) (now (lent .1 .0)) a (now (after .1 .0))))
+  pub of-turn : t24-turn.spec 𝓤 H A mem run
+      ≡ closing 𝓤 H A t24-turn.ended (Only 𝓤 t24-turn.ended (λ κs lent a after.
+      TurnPromise (now (lent .0)) (now (lent .1 .0)) (now (lent .1 .1 .0)) a (now (after .1 .1 .0))))
+  pub of-version : t24-version.spec 𝓤 H A mem run ≡ closing 𝓤 H A t24-version.ended (Only 𝓤 t24-version.ended (λ κs lent a after. VersionPromise a))
   pub of-exchange : t24-exchange.spec 𝓤 H A mem run
       ≡ closing 𝓤 H A t24-exchange.ended (Only 𝓤 t24-exchange.ended (λ κs lent a after.
       ExchangePromise (now (lent .0)) (now (lent .1 .0)) (now (lent .1 .1 .0)) (now (lent .1 .1 .1 .0)) (now (lent .1 .1 .1 .1 .0))

@@ -4,7 +4,7 @@ use mathlib.Core.List.{List, [], _∷_, _++_}
 use mathlib.Core.Logic.{_⊎_}
 use mathlib.Core.Path.{_≡_}
 use lib.ListN.{length, drop}
-use Rattle.law.specs.Words.{Every, Some, InARow, sumOf, joined, inOctets}
+use Rattle.law.specs.Words.{Every, Some, InARow, sumOf, joined, inOctets, octet}
 
 pub record Region : Type 0 where
   pub start : ℕ
@@ -22,7 +22,8 @@ pub record Item : Type 0 where
   pub length : ℕ
   pub octets : List ℕ
 
--- "The link record comes first and once; then regions, parameters, ID items, end": a sheet has the link record's fields, and a list of each kind
+-- "The link record comes first and once; then regions, parameters, ID items, end": a sheet has the link record's fields, and a list of each kind. Request 9:
+-- "kind 06 with body of one octet 0 to 3, after the ID items and at most once, allows that many failures in a row, none without it"
 pub record Sheet : Type 0 where
   pub l : ℕ
   pub version : ℕ
@@ -30,6 +31,10 @@ pub record Sheet : Type 0 where
   pub regions : List Region
   pub parameters : List Parameter
   pub items : List Item
+  pub tolerances : List ℕ
+
+abbrev pub allows : Sheet → ℕ
+allows h = octet (h .tolerances) 0
 
 -- "02 region: start (4), length (4), rights (1)"
 abbrev pub regionOctets : Region → List ℕ
@@ -43,11 +48,15 @@ parameterOctets p = 3 ∷ inOctets 2 (p .number) ++ inOctets 4 (p .address) ++ p
 abbrev pub itemOctets : Item → List ℕ
 itemOctets i = 4 ∷ i .code ∷ i .length ∷ i .octets
 
+abbrev pub toleranceOctets : ℕ → List ℕ
+toleranceOctets n = 6 ∷ n ∷ []
+
 -- "01 link: L (1), version (1), profile (1)"; all records of a sheet, and what stands behind them
 abbrev pub written : Sheet → List ℕ → List ℕ
 written h rest =
     (1 ∷ h .l ∷ h .version ∷ h .profile ∷ [])
-    ++ (joined regionOctets (h .regions) ++ (joined parameterOctets (h .parameters) ++ (joined itemOctets (h .items) ++ rest)))
+    ++ (joined regionOctets (h .regions)
+    ++ (joined parameterOctets (h .parameters) ++ (joined itemOctets (h .items) ++ (joined toleranceOctets (h .tolerances) ++ rest))))
 
 -- a whole sheet: behind its records the end record, "00 end: none", and "nothing after"
 abbrev pub sheetOctets : Sheet → List ℕ
@@ -118,7 +127,10 @@ FewParameters ps = length ps ≤ 64
 abbrev pub FewItems : List Item → Type 0
 FewItems is = length is ≤ 32
 
--- "2,048 octets of sheet" follow: these are 1,957 at most. A sheet may have no region, no parameter and no ID item
+abbrev pub Once : List ℕ → Type 0
+Once ts = length ts ≤ 1
+
+-- "2,048 octets of sheet" follow: these are 1,959 at most. A sheet may have no region, no parameter and no ID item
 pub record WellFormed (h : Sheet) : Type 0 where
   pub l : FiveLengths (h .l)
   pub version : IsOctet (h .version)
@@ -132,3 +144,5 @@ pub record WellFormed (h : Sheet) : Type 0 where
   pub few-regions : FewRegions (h .regions)
   pub few-parameters : FewParameters (h .parameters)
   pub few-items : FewItems (h .items)
+  pub tolerances : Every (λ n. n ≤ 3) (h .tolerances)
+  pub once : Once (h .tolerances)
