@@ -8,7 +8,7 @@ use Rattle.law.specs.Sheet.{Sheet, WellFormed, sheetOctets}
 use Rattle.slave.specs.Exchange.{Left, exchangeOf}
 use Rattle.demands.specs.Hidden.{DifferOnlyHidden, Seen, seen}
 use Rattle.demands.specs.Idle.{KeepsSecrets, AgreesWhereReached, refusesAll, singleReply, storesNothing, echoes, echoesAfterwards, inventing, inventsRsn}
-use Rattle.demands.specs.Sequences.{Call, Reset, Enable, Exchange, Replay, callOf, runOf, lastMemory}
+use Rattle.demands.specs.Sequences.{Call, Reset, Enable, Turn, Exchange, Replay, callOf, runOf, lastMemory}
 use Rattle.octets.proofs.Overlaid.{still-agree}
 use Rattle.demands.proofs.Runs.{call-kept, demand-3}
 
@@ -33,6 +33,7 @@ module _ (sheet state m₁ m₂ : List ℕ) where
   echoes-seen [] = refl
   echoes-seen (Reset ∷ cs) = behind (echoes-seen cs)
   echoes-seen (Enable ∷ cs) = behind (echoes-seen cs)
+  echoes-seen (Turn old ∷ cs) = behind (echoes-seen cs)
   echoes-seen (Exchange command reply ∷ cs) = behind (echoes-seen cs)
   echoes-seen (Replay trace ∷ cs) = behind (echoes-seen cs)
 
@@ -52,6 +53,7 @@ module _ (sheet state memory : List ℕ) where
   echoes-last [] = refl
   echoes-last (Reset ∷ cs) = echoes-last cs
   echoes-last (Enable ∷ cs) = echoes-last cs
+  echoes-last (Turn old ∷ cs) = echoes-last cs
   echoes-last (Exchange command reply ∷ cs) = echoes-last cs
   echoes-last (Replay trace ∷ cs) = echoes-last cs
 
@@ -90,6 +92,8 @@ echoes-afterwards-keeps-secrets h w state m₁ m₂ d (Reset ∷ cs) =
     let k = echoes-afterwards-keeps-secrets h w (callOf (sheetOctets h) state m₁ Reset .state) m₁ m₂ d cs in (behind (k .0), k .1)
 echoes-afterwards-keeps-secrets h w state m₁ m₂ d (Enable ∷ cs) =
     let k = echoes-afterwards-keeps-secrets h w (callOf (sheetOctets h) state m₁ Enable .state) m₁ m₂ d cs in (behind (k .0), k .1)
+echoes-afterwards-keeps-secrets h w state m₁ m₂ d (Turn old ∷ cs) =
+    let k = echoes-afterwards-keeps-secrets h w (callOf (sheetOctets h) state m₁ (Turn old) .state) m₁ m₂ d cs in (behind (k .0), k .1)
 echoes-afterwards-keeps-secrets h w state m₁ m₂ d (Replay trace ∷ cs) =
     let k = call-kept h w (λ i. getD m₁ i 0 ≡ getD m₂ i 0) (d .shown) state m₁ m₂ (d .whole₁) (d .whole₂) (λ i e. e) (Replay trace) in
     let l₁ = callOf (sheetOctets h) state m₁ (Replay trace) in

@@ -4,7 +4,7 @@
 --     seen-identity, seen-rwdt                    the command's identity in the reply; RWDT
 --     seen-zero                                   without a body all octets behind the head are 0
 --     seen-link                                   the link afterwards is what the command made of it
-use mathlib.Core.Bool.{Bool, true, false, _&&_}
+use mathlib.Core.Bool.{Bool, true, false, not, _&&_}
 use mathlib.Core.Logic.{⊎-elim}
 use mathlib.Core.Path.{_≡_, sym, ap, _∙_}
 use mathlib.Core.List.{List, [], _∷_}
@@ -17,9 +17,9 @@ use Rattle.link.specs.Stored.{fieldsOf}
 use Rattle.slave.specs.Answers.{told}
 use Rattle.slave.specs.Exchange.{left, exchanged, exchangeOf}
 use Rattle.replay.proofs.Steps.{is-exchanged}
-use Rattle.law.specs.Words.{Every, when, Piece, piece, laid, over}
+use Rattle.law.specs.Words.{Every, when, bit, Piece, piece, laid, over}
 use Rattle.law.specs.Sheet.{Sheet, FiveLengths, sheetOctets}
-use Rattle.law.specs.State.{link, rsn, commandLatch, communicationLatch}
+use Rattle.law.specs.State.{link, rsn, commandLatch, communicationLatch, failures}
 use Rattle.law.specs.Exchange.{Fate, code, mn, identity, fateOf, watched, stateAfter, headFor, replyFor}
 use Rattle.law.specs.Calls.{Result, done}
 use Rattle.law.proofs.Calls.{leaves, done-same}
@@ -27,7 +27,7 @@ use Rattle.law.proofs.Clauses.{state-yes}
 use Rattle.law.proofs.Complete.{complete}
 use Rattle.law.proofs.Laid.{over-length, over-at, laid-before, lies-past}
 use Rattle.law.proofs.Layouts.{layoutFor}
-use Rattle.demands.specs.Answered.{Answered, alarmIn}
+use Rattle.demands.specs.Answered.{Answered, alarmIn, toleratedIn}
 use Rattle.demands.specs.Identity.{identityIn}
 use Rattle.demands.specs.Watchdog.{rwdt}
 use Rattle.demands.proofs.Fates.{headSize, fate-body, fate-small}
@@ -101,13 +101,33 @@ module _ (h : Sheet) (s m c : List ℕ) (long : 8 ≤ h .l) where
   bit-small true = omega arith
   bit-small false = omega arith
 
+  bit-two : (b : Bool) → when b 0 2 ≤ 2
+  unfolding when
+  bit-two true = omega arith
+  bit-two false = omega arith
+
   pub seen-identity : identityIn (lawful h s m c .reply) ≡ identityIn c
   unfolding laid when
   seen-identity =
       let b = eqb (commandLatch t) 0 && eqb (communicationLatch t) 0 in
+      let d = eqb (failures t) 0 in
       let u = bit-small b in
+      let v = bit-two d in
       ap (λ (x : ℕ). x / 64 % 4) (seen-head _ (omega arith))
-      ∙ (let e : (4 + when b 0 1 + 64 * identity c) / 64 % 4 ≡ identity c = omega arith in e)
+      ∙ (let e : (4 + when b 0 1 + when d 0 2 + 64 * identity c) / 64 % 4 ≡ identity c = omega arith in e)
+
+  second-bit : (b d : Bool) (i : ℕ) → bit (4 + when b 0 1 + when d 0 2 + 64 * i) 1 ≡ not d
+  unfolding when
+  second-bit true true i = ap (λ (n : ℕ). eqb n 1) (let e : (4 + 0 + 0 + 64 * i) / 2 % 2 ≡ 0 = omega arith in e)
+  second-bit true false i = ap (λ (n : ℕ). eqb n 1) (let e : (4 + 0 + 2 + 64 * i) / 2 % 2 ≡ 1 = omega arith in e)
+  second-bit false true i = ap (λ (n : ℕ). eqb n 1) (let e : (4 + 1 + 0 + 64 * i) / 2 % 2 ≡ 0 = omega arith in e)
+  second-bit false false i = ap (λ (n : ℕ). eqb n 1) (let e : (4 + 1 + 2 + 64 * i) / 2 % 2 ≡ 1 = omega arith in e)
+
+  -- status bit 1 tells that a failure is counted
+  pub seen-tolerated : toleratedIn (lawful h s m c .reply) ≡ not (eqb (failures t) 0)
+  unfolding laid when
+  seen-tolerated =
+      ap (λ (x : ℕ). bit x 1) (seen-head _ (omega arith)) ∙ second-bit (eqb (commandLatch t) 0 && eqb (communicationLatch t) 0) (eqb (failures t) 0) (identity c)
 
   pub seen-alarm : alarmIn (lawful h s m c .reply) ≡ f .alarm
   unfolding laid when
@@ -132,10 +152,10 @@ module _ (h : Sheet) (s m c : List ℕ) (long : 8 ≤ h .l) where
 
   -- the watchdog's fields stand behind the link
   watched-further : (linkBefore linkAfter : ℕ) (b d : Bool) (x y : ℕ)
-      → Every (λ (p : Piece). 1 < p .first) (when b (when d (piece 5 (1 ∷ x ∷ y ∷ []) ∷ []) (piece 3 (0 ∷ []) ∷ piece 5 (0 ∷ 0 ∷ 0 ∷ []) ∷ [])) (when d (piece 5 (0 ∷ 0 ∷ 0 ∷ []) ∷ []) []))
+      → Every (λ (p : Piece). 1 < p .first) (when b (when d (piece 5 (1 ∷ x ∷ y ∷ []) ∷ []) (piece 3 (0 ∷ []) ∷ piece 5 (0 ∷ 0 ∷ 0 ∷ []) ∷ piece 10 (0 ∷ []) ∷ [])) (when d (piece 5 (0 ∷ 0 ∷ 0 ∷ []) ∷ []) []))
   unfolding when
   watched-further linkBefore linkAfter true true x y = (omega arith, tt)
-  watched-further linkBefore linkAfter true false x y = (omega arith, (omega arith, tt))
+  watched-further linkBefore linkAfter true false x y = (omega arith, (omega arith, (omega arith, tt)))
   watched-further linkBefore linkAfter false true x y = (omega arith, tt)
   watched-further linkBefore linkAfter false false x y = tt
 

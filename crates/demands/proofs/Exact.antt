@@ -1,26 +1,27 @@
 -- Acceptance is exact: what the law accepts is what a host sees executed.
-use mathlib.Core.Bool.{Bool, true, false, not, and-eq-true-iff, _&&_}
+use mathlib.Core.Bool.{Bool, true, false, not, and-eq-true-iff, _&&_, true≢false}
 use mathlib.Core.Logic.{⊎-elim}
 use mathlib.Core.Path.{_≡_, refl, sym, ap, ap₂, subst, _∙_}
 use mathlib.Core.List.{List}
 use Prim.Native.Nat.{ℕ, zero, suc, _+_, _≤_, _<_}
 use native.Mathlib.Omega.{arith}
 use borrow.Author.Tests.{eqb-true, eq-eqb, not-true}
-use lib.Dec.{eqb}
+use lib.Dec.{eqb, ltb}
 use lib.ListN.{length}
 use Rattle.octets.proofs.Cases.{decided, lt-or-le}
 use Rattle.law.specs.Words.{when, laid}
-use Rattle.law.specs.Sheet.{Sheet}
-use Rattle.law.specs.State.{link}
+use Rattle.law.specs.Sheet.{Sheet, allows}
+use Rattle.law.specs.State.{link, failures}
 use Rattle.law.specs.Memory.{Cell, has, hasAll}
 use Rattle.law.specs.Table.{table}
-use Rattle.law.specs.Exchange.{Fate, code, missed, judged, lost, fateOf}
+use Rattle.law.specs.Exchange.{Fate, code, missed, judged, lost, fateOf, passing}
 use Rattle.law.proofs.Clauses.{valid-true}
 use Rattle.slave.specs.Exchange.{Left, exchangeOf}
 use Rattle.demands.specs.Accepted.{accepted, Executed, AcceptanceIsExact, RightsOverWholeSpan}
 use Rattle.demands.specs.Answered.{Answered, alarmIn}
 use Rattle.demands.proofs.Done.{least-length, answered-done, seen-alarm, seen-link}
-use Rattle.demands.proofs.Fates.{fate-missed, fate-kept, row-stays}
+use Rattle.demands.proofs.Counts.{passed-shown, tolerated-shown, failing-no}
+use Rattle.demands.proofs.Fates.{fate-kept, row-stays}
 
 module _ (h : Sheet) (sheet s m c r : List ℕ) (a : Answered h sheet s m c r) where
   abbrev x : Left
@@ -43,13 +44,19 @@ module _ (h : Sheet) (sheet s m c r : List ℕ) (a : Answered h sheet s m c r) w
   link-is f e =
       ap (λ (l : Left). link (l .state)) (answered-done h sheet s m c r a) ∙ seen-link h s m c long ten ∙ ap (λ (g : Fate). laid (g .changes) 1 (link s)) e
 
+  -- the count stands behind the link
+  pub kept-link : (f : Fate) → laid (passing f .changes) 1 (link s) ≡ laid (f .changes) 1 (link s)
+  unfolding laid when
+  kept-link f = refl
+
   to : accepted h s m c ≡ true → Executed s x
   to e =
       let p = and-eq-true-iff (not (missed s c)) (eqb (row .alarm) 0) .0 e in
       let k = fate-kept h s m c (not-true (missed s c) (p .0)) in
       record {
-        no-alarm = alarm-is row k ∙ eqb-true (row .alarm) 0 (p .1);
-        not-lost = λ three two. row-stays h s m c three (sym (link-is row k) ∙ two);
+        no-alarm = alarm-is (passing row) k ∙ eqb-true (row .alarm) 0 (p .1);
+        not-lost = λ three two. row-stays h s m c three (sym (kept-link row) ∙ sym (link-is (passing row) k) ∙ two);
+        not-tolerated = passed-shown h sheet s m c r a (not-true (missed s c) (p .0));
       }
 
   pub lost-link : (n : ℕ) → laid (lost .changes) 1 n ≡ 2
@@ -61,9 +68,12 @@ module _ (h : Sheet) (sheet s m c r : List ℕ) (a : Answered h sheet s m c r) w
       ⊎-elim
       (λ (t : missed s c ≡ true).
       let three = eqb-true (link s) 3 (and-eq-true-iff (eqb (link s) 3) _ .0 t .0) in
-      absurd (e .not-lost three (link-is lost (fate-missed h s m c t) ∙ lost-link (link s))))
+      ⊎-elim
+      (λ (l : ltb (failures s) (allows h) ≡ true). absurd (true≢false (sym (tolerated-shown h sheet s m c r a t l) ∙ e .not-tolerated)))
+      (λ (l : ltb (failures s) (allows h) ≡ false). absurd (e .not-lost three (link-is lost (failing-no h sheet s m c r a t l) ∙ lost-link (link s))))
+      (decided (ltb (failures s) (allows h))))
       (λ (t : missed s c ≡ false).
-      ap₂ _&&_ (ap not t) (eq-eqb (row .alarm) 0 (sym (alarm-is row (fate-kept h s m c t)) ∙ e .no-alarm)))
+      ap₂ _&&_ (ap not t) (eq-eqb (row .alarm) 0 (sym (alarm-is (passing row) (fate-kept h s m c t)) ∙ e .no-alarm)))
       (decided (missed s c))
 
 pub acceptance-is-exact : AcceptanceIsExact

@@ -1,6 +1,6 @@
 -- What can become of a command, by the law's table.
 --     judged-by          what every refusal has and every row that is done has, each fate has
---     fate-by            the same with a lost cycle
+--     fate-by            the same with a lost cycle, tolerated or not
 --     fate-refused       a fate without acceptance is a lost cycle or a refusal
 --     accepted-fate      and one with it is the row's
 --     fate-head, fate-silent, fate-stays, fate-small, fate-writes    what bodies, refusals, links, alarms and stored octets have
@@ -14,11 +14,11 @@ use borrow.Author.Tests.{ltb-true, leb-true, eqb-true}
 use lib.Dec.{eqb, leb, ltb}
 use lib.ListN.{length, take, drop}
 use Rattle.law.specs.Words.{when, implies, Every, oneOf, Piece, piece, laid}
-use Rattle.law.specs.Sheet.{Sheet}
-use Rattle.law.specs.State.{link, commandLatch}
+use Rattle.law.specs.Sheet.{Sheet, allows}
+use Rattle.law.specs.State.{link, commandLatch, failures}
 use Rattle.law.specs.Memory.{cells, writable, hasAll}
 use Rattle.law.specs.Table.{Check, check, Row, table, parameter, address, n}
-use Rattle.law.specs.Exchange.{Fate, fate, code, lost, missed, refused, checked, judged, headFor, fateOf}
+use Rattle.law.specs.Exchange.{Fate, fate, code, lost, tolerated, failing, passing, missed, refused, checked, judged, headFor, fateOf}
 use Rattle.law.proofs.Laid.{when-yes, when-no}
 use Rattle.demands.specs.Places.{Holds}
 
@@ -104,10 +104,11 @@ module _ (h : Sheet) (s m c : List ℕ) where
   pub named : namedRows (table h s m c) ≡ true
   named = refl
 
-  pub fate-by : (P : Fate → Type 0) → P lost → ((a place : ℕ) → Named a place → P (refused s a place))
-      → Every (λ (r : Row). oneOf (link s) (r .links) ≡ true → Every Holds (r .checks) → P (doneRow r)) (table h s m c) → P (fateOf h s m c)
+  pub fate-by : (P : Fate → Type 0) → P lost → P (tolerated s) → ((a place : ℕ) → Named a place → P (passing (refused s a place)))
+      → Every (λ (r : Row). oneOf (link s) (r .links) ≡ true → Every Holds (r .checks) → P (passing (doneRow r))) (table h s m c) → P (fateOf h s m c)
   unfolding fateOf
-  fate-by P p r all = when-cases P (missed s c) (λ e. p) (λ e. judged-by s P r (code c) (table h s m c) named all)
+  fate-by P p q r all =
+      when-cases P (missed s c) (λ e. when-cases P (ltb (failures s) (allows h)) (λ f. q) (λ f. p)) (λ e. judged-by s (λ f. P (passing f)) r (code c) (table h s m c) named all)
 
   abbrev row : Fate
   row = judged s (code c) (table h s m c)
@@ -123,11 +124,11 @@ module _ (h : Sheet) (s m c : List ℕ) where
       u : {A B C : Type 0} → A → B → (_≡_ {A = ℕ} 0 0 → ⊥) → C
       u a b z = absurd (z refl)
 
-  pub fate-missed : missed s c ≡ true → fateOf h s m c ≡ lost
+  pub fate-missed : missed s c ≡ true → fateOf h s m c ≡ failing h s
   unfolding fateOf
   fate-missed e = when-yes _ _ e
 
-  pub fate-kept : missed s c ≡ false → fateOf h s m c ≡ row
+  pub fate-kept : missed s c ≡ false → fateOf h s m c ≡ passing row
   unfolding fateOf
   fate-kept e = when-no _ _ e
 
@@ -135,7 +136,7 @@ module _ (h : Sheet) (s m c : List ℕ) where
   pub fate-body : Every (λ (p : Piece). headSize ≤ p .first) (fateOf h s m c .body)
   unfolding refused
   fate-body =
-      fate-by (λ f. Every (λ (p : Piece). headSize ≤ p .first) (f .body)) tt (λ a place w. tt) (
+      fate-by (λ f. Every (λ (p : Piece). headSize ≤ p .first) (f .body)) tt tt (λ a place w. tt) (
         λ a b. tt,
         (
           λ a b. (omega arith, (omega arith, tt)),
@@ -174,7 +175,7 @@ module _ (h : Sheet) (s m c : List ℕ) where
   pub fate-small : fateOf h s m c .alarm < 16
   unfolding refused
   fate-small =
-      fate-by (λ f. f .alarm < 16) z (λ a place w. w .small)
+      fate-by (λ f. f .alarm < 16) z z (λ a place w. w .small)
       (λ a b. z, (λ a b. z, (λ a b. z, (λ a b. z, (λ a b. z, (λ a b. z, (λ a b. z, (λ a b. z, (λ a b. z, (λ a b. z, (λ a b. z, tt)))))))))))
     where
       z : 0 < 16
@@ -200,7 +201,7 @@ module _ (h : Sheet) (s m c : List ℕ) where
   pub fate-writes : 8 ≤ h .l → (fateOf h s m c .stores ≡ []) ⊎ Writing (fateOf h s m c)
   unfolding refused
   fate-writes long =
-      fate-by (λ f. (f .stores ≡ []) ⊎ Writing f) (inl refl) (λ a place w. inl refl) (
+      fate-by (λ f. (f .stores ≡ []) ⊎ Writing f) (inl refl) (inl refl) (λ a place w. inl refl) (
         λ a b. inl refl,
         (
           λ a b. inl refl,
@@ -278,3 +279,16 @@ module _ (h : Sheet) (s m c : List ℕ) where
       -- SYNC_SET and CONNECT are not allowed in link 3
       away : {B C : Type 0} (only : ℕ) → only < 3 → oneOf (link s) (only ∷ []) ≡ true → B → link s ≡ 3 → C → ⊥
       away only l a b e q = let k = eqb-true (link s) only (first (eqb (link s) only) a) in omega arith
+
+  -- no command that is judged touches the count
+  pub row-counts : (n : ℕ) → laid (row .changes) 10 n ≡ n
+  unfolding refused laid when
+  row-counts n =
+      judged-by s (λ f. laid (f .changes) 10 n ≡ n)
+      (λ a place w. latch-counts (eqb (commandLatch s) 0) a n) (code c) (table h s m c) named
+      (λ a b. refl, (λ a b. refl, (λ a b. refl, (λ a b. refl, (λ a b. refl, (λ a b. refl, (λ a b. refl, (λ a b. refl, (λ a b. refl, (λ a b. refl, (λ a b. refl, tt)))))))))))
+    where
+      latch-counts : (b : Bool) (a x : ℕ) → laid (when b (piece 8 (a ∷ []) ∷ []) []) 10 x ≡ x
+      unfolding when laid
+      latch-counts true a x = refl
+      latch-counts false a x = refl

@@ -3,7 +3,7 @@ use mathlib.Core.Path.{_≡_, refl, ap, _∙_}
 use mathlib.Core.List.{List, _∷_}
 use Prim.Native.Nat.{ℕ}
 use Rattle.slave.specs.Exchange.{Left, left}
-use Rattle.demands.specs.Sequences.{Call, Reset, Enable, Exchange, Replay, callOf, runOf, Meets, History, start, next}
+use Rattle.demands.specs.Sequences.{Call, Reset, Enable, Turn, Exchange, Replay, callOf, runOf, Meets, History, start, next}
 
 -- two lefts that meet one promise are what the defined call leaves
 met : (sheet state memory : List ℕ) (c : Call) (l : Left) → Meets sheet state memory c l → l ≡ callOf sheet state memory c
@@ -11,6 +11,8 @@ unfolding callOf
 met sheet state memory Reset l m =
     λ i. left (m .0 i .answer) (m .0 i .state) (m .1 i) (m .2 i)
 met sheet state memory Enable l m =
+    λ i. left (m .0 i .answer) (m .0 i .state) (m .1 i) (m .2 i)
+met sheet state memory (Turn old) l m =
     λ i. left (m .0 i .answer) (m .0 i .state) (m .1 i) (m .2 i)
 met sheet state memory (Exchange command reply) l m = m
 met sheet state memory (Replay trace) l m =

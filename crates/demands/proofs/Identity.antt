@@ -126,10 +126,10 @@ module _ (sheet state memory reply : List ℕ) where
 
     with-sheet : (x : Verdict) → verdictOf sheet ≡ x
         → OnlyIdentityDiffers
-        (onSheet x (λ refusal. left refusal state memory reply) (λ lay. onState (stateOf state (lay .l)) (left (told 1 0) state memory reply) (λ st. behindState lay st (length c) c)))
-        (onSheet x (λ refusal. left refusal state memory reply) (λ lay. onState (stateOf state (lay .l)) (left (told 1 0) state memory reply) (λ st. behindState lay st (length d) d)))
+        (onSheet x (λ refusal. left refusal state memory reply) (λ lay. onState (stateOf state (lay .l) (lay .tolerance)) (left (told 1 0) state memory reply) (λ st. behindState lay st (length c) c)))
+        (onSheet x (λ refusal. left refusal state memory reply) (λ lay. onState (stateOf state (lay .l) (lay .tolerance)) (left (told 1 0) state memory reply) (λ st. behindState lay st (length d) d)))
     unfolding onSheet
-    with-sheet (Valid lay) v = with-state lay v (stateOf state (lay .l))
+    with-sheet (Valid lay) v = with-state lay v (stateOf state (lay .l) (lay .tolerance))
     with-sheet (Faulty fault place) v = itself _
 
 pub control-is-ignored : ControlIsIgnored

@@ -8,11 +8,11 @@ use mathlib.Core.List.{List, [], _∷_}
 use Prim.Native.Nat.{ℕ, zero, suc, _+_, _≤_, _<_}
 use native.Mathlib.Omega.{arith}
 use borrow.Author.Tests.{eqb-true}
-use lib.Dec.{eqb}
+use lib.Dec.{eqb, ltb}
 use Rattle.octets.proofs.Cases.{decided, lt-or-le}
 use Rattle.law.specs.Words.{when, Every, Some, oneOf, Piece}
-use Rattle.law.specs.Sheet.{Sheet}
-use Rattle.law.specs.State.{link}
+use Rattle.law.specs.Sheet.{Sheet, allows}
+use Rattle.law.specs.State.{link, failures}
 use Rattle.law.specs.Memory.{Cell, cells, readable, writable, has, hasAll, hasBefore}
 use Rattle.law.specs.Table.{Row, table, parameter, address, n}
 use Rattle.law.specs.Exchange.{Fate, fate, code, missed, refused, checked, judged, fateOf}
@@ -126,7 +126,10 @@ module _ (h : Sheet) (s m c : List ℕ) where
 
   fate-told : Told (fateOf h s m c)
   unfolding fateOf
-  fate-told = when-cases Told (missed s c) (λ _. record { lacks = λ e. absurd (let w : ⊥ = omega arith in w) }) (λ _. told)
+  fate-told =
+      when-cases Told (missed s c)
+      (λ _. when-cases Told (ltb (failures s) (allows h)) (λ _. record { lacks = λ e. absurd (let w : ⊥ = omega arith in w) }) (λ _. record { lacks = λ e. absurd (let w : ⊥ = omega arith in w) }))
+      (λ _. record { lacks = told .lacks })
 
 pub first-without-the-right : FirstWithoutTheRight
 first-without-the-right h sheet s m c r a e =

@@ -50,7 +50,7 @@ memory-keeps sheet state memory command reply =
     unfold exchangeOf in
     by-sheet (λ (l : Left). length (l .memory) ≡ length memory) (verdictOf sheet) _ _ (λ fault p. refl)
     (λ lay v.
-    by-state (λ (l : Left). length (l .memory) ≡ length memory) (stateOf state (lay .l)) _ _ refl
+    by-state (λ (l : Left). length (l .memory) ≡ length memory) (stateOf state (lay .l) (lay .tolerance)) _ _ refl
     (λ st h.
     pick-cases (λ (l : Left). length (l .memory) ≡ length memory) _ (λ e. refl)
     (λ e. exchanged-length sheet memory command reply lay st v (eqb-true _ 0 (not-false _ e)))))
@@ -60,7 +60,7 @@ reply-keeps sheet state memory command reply =
     unfold exchangeOf in
     by-sheet (λ (l : Left). length (l .reply) ≡ length reply) (verdictOf sheet) _ _ (λ fault p. refl)
     (λ lay v.
-    by-state (λ (l : Left). length (l .reply) ≡ length reply) (stateOf state (lay .l)) _ _ refl
+    by-state (λ (l : Left). length (l .reply) ≡ length reply) (stateOf state (lay .l) (lay .tolerance)) _ _ refl
     (λ st h.
     pick-cases (λ (l : Left). length (l .reply) ≡ length reply) _ (λ e. refl)
     (λ e. exchanged-reply sheet memory command reply lay st v (eqb-true _ 0 (not-false _ e)))))

@@ -5,6 +5,7 @@ pub mod Histories
 pub mod Refusals
 pub mod Fates
 pub mod Done
+pub mod Counts
 pub mod Exact
 pub mod OnTheWire
 pub mod Owned

@@ -9,10 +9,12 @@ use borrow.Author.Tests.{eq-eqb}
 use lib.ListN.{length, getD}
 use Rattle.octets.proofs.Cases.{decided}
 use Rattle.law.specs.Words.{Piece}
-use Rattle.law.specs.Sheet.{Sheet}
+use Rattle.law.specs.State.{failures}
+use lib.Dec.{ltb}
+use Rattle.law.specs.Sheet.{Sheet, allows}
 use Rattle.law.specs.Memory.{cells, stored}
 use Rattle.law.specs.Table.{table}
-use Rattle.law.specs.Exchange.{Fate, code, mn, missed, lost, refused, judged, fateOf, stateAfter}
+use Rattle.law.specs.Exchange.{Fate, code, mn, missed, refused, judged, fateOf, stateAfter, failing, passing}
 use Rattle.law.proofs.Held.{length-cells}
 use Rattle.law.proofs.Laid.{stored-none}
 use Rattle.slave.specs.Answers.{told}
@@ -21,7 +23,7 @@ use Rattle.demands.specs.Accepted.{accepted}
 use Rattle.demands.specs.Answered.{Answered, alarmIn}
 use Rattle.demands.specs.OnTheWire.{RefusedByReply, RefusedOnTheWire}
 use Rattle.demands.proofs.Done.{least-length, lawful, answered-done, seen-whole, seen-code, seen-alarm, seen-zero}
-use Rattle.demands.proofs.Fates.{fate-missed, fate-kept, row-refused}
+use Rattle.demands.proofs.Fates.{when-cases, fate-missed, fate-kept, row-refused}
 
 true-not-false : {A : Type 0} → _≡_ {A = Bool} true false → A
 true-not-false e = absurd (let z : _≡_ {A = ℕ} 0 1 = cc in let v : ⊥ = omega arith in v)
@@ -41,8 +43,8 @@ module _ (h : Sheet) (sheet s m c r : List ℕ) (a : Answered h sheet s m c r) w
 
   -- a fate without body and stored octets, and what it does to the state
   by-fate : (f : Fate) → fateOf h s m c ≡ f → f .body ≡ [] → f .stores ≡ []
-      → (missed s c ≡ true → (alarmIn (x .reply) ≡ 0) × (x .state ≡ stateAfter s (mn c) (lost .changes)))
-      → (missed s c ≡ false → (alarmIn (x .reply) ≡ 0 → ⊥) × (x .state ≡ stateAfter s (mn c) (refused s (alarmIn (x .reply)) (x .answer .place) .changes)))
+      → (missed s c ≡ true → (alarmIn (x .reply) ≡ 0) × (x .state ≡ stateAfter s (mn c) (failing h s .changes)))
+      → (missed s c ≡ false → (alarmIn (x .reply) ≡ 0 → ⊥) × (x .state ≡ stateAfter s (mn c) (passing (refused s (alarmIn (x .reply)) (x .answer .place)) .changes)))
       → RefusedByReply h s m c x
   by-fate f e body memory watchdog alarm = record {
     reply-built = ap (λ (l : Left). l .answer .number) is;
@@ -75,23 +77,28 @@ module _ (h : Sheet) (sheet s m c r : List ℕ) (a : Answered h sheet s m c r) w
       let row = judged s (code c) (table h s m c) in
       let k = fate-kept h s m c t in
       let q = row-refused h s m c (row-alarm t f) in
-      let e : fateOf h s m c ≡ refused s (row .alarm) (row .place) = k ∙ q .1 in
+      let e : fateOf h s m c ≡ passing (refused s (row .alarm) (row .place)) = k ∙ ap passing (q .1) in
       let seen : alarmIn (x .reply) ≡ row .alarm = alarm-is ∙ ap (λ (g : Fate). g .alarm) k in
       let place : x .answer .place ≡ row .place = ap (λ (l : Left). l .answer .place) is ∙ ap (λ (g : Fate). g .place) k in
-      by-fate (refused s (row .alarm) (row .place)) e (refused-body (row .alarm) (row .place)) (refused-memory (row .alarm) (row .place))
+      by-fate (passing (refused s (row .alarm) (row .place))) e (refused-body (row .alarm) (row .place)) (refused-memory (row .alarm) (row .place))
       (λ u. true-not-false (sym u ∙ t))
       (λ u. (
         λ z. row-alarm t f (sym seen ∙ z),
-        state-is (refused s (row .alarm) (row .place)) e ∙ ap₂ (λ (n p : ℕ). stateAfter s (mn c) (refused s n p .changes)) (sym seen) (sym place),
+        state-is (passing (refused s (row .alarm) (row .place))) e ∙ ap₂ (λ (n p : ℕ). stateAfter s (mn c) (passing (refused s n p) .changes)) (sym seen) (sym place),
       ))
+
+-- a failed check 1, tolerated or not, has no alarm, no body and nothing stored
+pub quiet : (h : Sheet) (s : List ℕ) → (failing h s .alarm ≡ 0) × (failing h s .body ≡ []) × (failing h s .stores ≡ [])
+quiet h s = when-cases (λ f. (f .alarm ≡ 0) × (f .body ≡ []) × (f .stores ≡ [])) (ltb (failures s) (allows h)) (λ e. (refl, refl, refl)) (λ e. (refl, refl, refl))
 
 pub refused-on-the-wire : RefusedOnTheWire
 refused-on-the-wire h sheet s m c r a f =
     ⊎-elim
     (λ (t : missed s c ≡ true).
     let e = fate-missed h s m c t in
-    by-fate h sheet s m c r a lost e refl refl
-    (λ u. (alarm-is h sheet s m c r a ∙ ap (λ (g : Fate). g .alarm) e, state-is h sheet s m c r a lost e))
+    let q = quiet h s in
+    by-fate h sheet s m c r a (failing h s) e (q .1) (q .2)
+    (λ u. (alarm-is h sheet s m c r a ∙ ap (λ (g : Fate). g .alarm) e ∙ q .0, state-is h sheet s m c r a (failing h s) e))
     (λ u. true-not-false (sym t ∙ u)))
     (λ (t : missed s c ≡ false). by-row h sheet s m c r a t f)
     (decided (missed s c))

@@ -37,6 +37,7 @@ use Rattle.demands.specs.Accepted.{accepted}
 use Rattle.demands.specs.Answered.{Answered}
 use Rattle.demands.specs.Writes.{cellAt, Wrote, WritesOwnOctets}
 use Rattle.demands.proofs.Done.{least-length, answered-done}
+use Rattle.demands.proofs.OnTheWire.{quiet}
 use Rattle.demands.proofs.Fates.{Writing, fate-writes, fate-missed, fate-kept}
 
 -- an exchange that is refused leaves all as it was
@@ -139,7 +140,7 @@ no-piece e = let z : _≡_ {A = ℕ} 0 1 = ap length e in omega arith
 stores-accepted : (h : Sheet) (s m c : List ℕ) (p : Piece) → fateOf h s m c .alarm ≡ 0 → fateOf h s m c .stores ≡ p ∷ [] → accepted h s m c ≡ true
 stores-accepted h s m c p z e =
     ⊎-elim
-    (λ (t : missed s c ≡ true). absurd (no-piece (sym (ap (λ (g : Fate). g .stores) (fate-missed h s m c t)) ∙ e)))
+    (λ (t : missed s c ≡ true). absurd (no-piece (sym (ap (λ (g : Fate). g .stores) (fate-missed h s m c t) ∙ quiet h s .2) ∙ e)))
     (λ (t : missed s c ≡ false). ap₂ _&&_ (ap not t) (eq-eqb _ 0 (sym (ap (λ (g : Fate). g .alarm) (fate-kept h s m c t)) ∙ z)))
     (decided (missed s c))
 

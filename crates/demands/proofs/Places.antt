@@ -7,13 +7,13 @@ use mathlib.Core.List.{List, [], _∷_, _++_, map}
 use Prim.Native.Nat.{ℕ, _+_}
 use native.Mathlib.Omega.{arith}
 use borrow.Author.Tests.{eq-eqb, ne-eqb}
-use lib.Dec.{eqb}
+use lib.Dec.{eqb, ltb}
 use Rattle.octets.proofs.Cases.{decided}
 use Rattle.law.specs.Words.{when, Every, oneOf}
-use Rattle.law.specs.Sheet.{Sheet, sheetOctets}
-use Rattle.law.specs.State.{link}
+use Rattle.law.specs.Sheet.{Sheet, sheetOctets, allows}
+use Rattle.law.specs.State.{link, failures}
 use Rattle.law.specs.Table.{Check, check, Row, table}
-use Rattle.law.specs.Exchange.{Fate, code, missed, refused, checked, judged, fateOf}
+use Rattle.law.specs.Exchange.{Fate, code, missed, refused, checked, judged, fateOf, failing, passing}
 use Rattle.law.proofs.Laid.{when-yes, when-no}
 use Rattle.slave.specs.Exchange.{Left, exchangeOf}
 use Rattle.demands.specs.Accepted.{accepted}
@@ -23,7 +23,8 @@ use Rattle.demands.specs.Places.{placeIn, Holds, Decided, allChecks, Fir
 use Rattle.demands.specs.Sequences.{runOf}
 use Rattle.demands.proofs.Done.{least-length, answered-done, seen-alarm}
 use Rattle.demands.proofs.Exact.{acceptance-is-exact}
-use Rattle.demands.proofs.Fates.{both, namedChecks, namedRows, check-named, doneRow, fate-by, fate-missed, fate-kept}
+use Rattle.demands.proofs.OnTheWire.{quiet}
+use Rattle.demands.proofs.Fates.{both, namedChecks, namedRows, check-named, doneRow, fate-by, fate-missed, fate-kept, when-cases}
 use Rattle.demands.proofs.Runs.{demand-3}
 
 pub octets-of-the-fields : OctetsOfTheFields
@@ -117,7 +118,7 @@ module _ (h : Sheet) (sheet s m c r : List ℕ) (a : Answered h sheet s m c r) w
     abbrev row : Fate
     row = judged s (code c) (table h s m c)
 
-    fate-is : fateOf h s m c ≡ row
+    fate-is : fateOf h s m c ≡ passing row
     fate-is = fate-kept h s m c go
 
     -- accepted, where the row has no alarm
@@ -160,14 +161,17 @@ none-judges s k (r ∷ rs) all = when-no _ _ (ne-eqb k (r .code) (all .0)) ∙ n
 pub unknown-code-is-told : UnknownCodeIsTold
 unfolding refused
 unknown-code-is-told h sheet s m c r a go none =
-    let e = fate-kept h s m c go ∙ none-judges s (code c) (table h s m c) none in
+    let e = fate-kept h s m c go ∙ ap passing (none-judges s (code c) (table h s m c) none) in
     (alarm-is h sheet s m c r a ∙ ap (λ (f : Fate). f .alarm) e, place-is h sheet s m c r a ∙ ap (λ (f : Fate). f .place) e)
+
+no-place : (h : Sheet) (s : List ℕ) → failing h s .place ≡ 0
+no-place h s = when-cases (λ f. f .place ≡ 0) (ltb (failures s) (allows h)) (λ e. refl) (λ e. refl)
 
 -- a fate that names no field has place 0
 no-field : (h : Sheet) (s m c : List ℕ) → oneOf (fateOf h s m c .alarm) (0 ∷ 8 ∷ 12 ∷ []) ≡ true → fateOf h s m c .place ≡ 0
 unfolding refused
 no-field h s m c =
-    fate-by h s m c (λ f. oneOf (f .alarm) (0 ∷ 8 ∷ 12 ∷ []) ≡ true → f .place ≡ 0) (λ e. refl)
+    fate-by h s m c (λ f. oneOf (f .alarm) (0 ∷ 8 ∷ 12 ∷ []) ≡ true → f .place ≡ 0) (λ e. refl) (λ e. refl)
     (λ a place w e. w .whole (sym (ap (λ (b : Bool). b || oneOf a (8 ∷ 12 ∷ [])) (ne-eqb a 0 (λ z. let l = w .some in let v : ⊥ = omega arith in v))) ∙ e))
     (z, (z, (z, (z, (z, (z, (z, (z, (z, (z, (z, tt)))))))))))
   where
@@ -179,7 +183,7 @@ no-field-was-wrong h sheet s m c r a = record {
   by-alarm = λ e. place-is h sheet s m c r a ∙ no-field h s m c (sym (ap (λ (n : ℕ). oneOf n (0 ∷ 8 ∷ 12 ∷ [])) (alarm-is h sheet s m c r a)) ∙ e);
   by-watchdog = λ e.
       let lost-is = fate-missed h s m c e in
-      (alarm-is h sheet s m c r a ∙ ap (λ (f : Fate). f .alarm) lost-is, place-is h sheet s m c r a ∙ ap (λ (f : Fate). f .place) lost-is);
+      (alarm-is h sheet s m c r a ∙ ap (λ (f : Fate). f .alarm) lost-is ∙ quiet h s .0, place-is h sheet s m c r a ∙ ap (λ (f : Fate). f .place) lost-is ∙ no-place h s);
 }
 
 pub places-are-the-same : PlacesAreTheSame

@@ -62,7 +62,7 @@ module _ (sheet state memory command reply : List ℕ) (lay : Layout) (st : Link
       let on = outcome-on sheet lay st (commandOf command) (lay .l) facts (omega (arith, z)) in
       record {
         valid = p .valid;
-        held = ap (λ (x : Left). stateOf (x .state) (lay .l)) answers
+        held = ap (λ (x : Left). stateOf (x .state) (lay .l) (lay .tolerance)) answers
             ∙ read-back _ (lay .l) (outcome-valid sheet lay st (commandOf command) (lay .l) facts (omega (arith, z)));
         whole = memory-keeps sheet state memory command reply ∙ p .whole;
         on = λ e. omega (arith, on, e);
@@ -108,7 +108,7 @@ unfolding replayOf
 secrets-in-whole-replay h w state m₁ m₂ hidden trace =
     let v = complete h w in
     subst₂ (λ (r₁ r₂ : Replayed). Alike m₁ m₂ r₁ r₂) (sym (on-valid _ _ _ _ v)) (sym (on-valid _ _ _ _ v))
-    (by-held m₁ m₂ (stateOf state (h .l)) (refused m₁ m₂ _ state)
+    (by-held m₁ m₂ (stateOf state (h .l) (allows h)) (refused m₁ m₂ _ state)
     (λ st.
     subst₂ (λ (r₁ r₂ : Replayed). Alike m₁ m₂ r₁ r₂) (sym (pick-same _ _ (hidden .whole₁))) (sym (pick-same _ _ (hidden .whole₂)))
     (by-test m₁ m₂ _ (refused m₁ m₂ _ state)
@@ -131,7 +131,7 @@ unfolding replayOf
 refused-replay-writes-nothing sheet state memory trace =
     by-sheet (Untouched state memory) (verdictOf sheet) _ _ (λ fault place n m. (refl, refl))
     (λ lay v.
-    by-state (Untouched state memory) (stateOf state (lay .l)) _ _ (λ n m. (refl, refl))
+    by-state (Untouched state memory) (stateOf state (lay .l) (lay .tolerance)) _ _ (λ n m. (refl, refl))
     (λ st h.
     pick-both (Untouched state memory) _ (λ n m. (refl, refl))
     (pick-both (Untouched state memory) _ (λ n m. (refl, refl))

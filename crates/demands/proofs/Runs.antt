@@ -11,7 +11,7 @@ use native.Mathlib.Omega.{arith}
 use lib.ListN.{length, getD, drop}
 use Rattle.octets.proofs.Cases.{eq-or-ne}
 use Rattle.octets.proofs.Pick.{pick-both, pick-same, pick-differ, pick-eq, pick-ne}
-use Rattle.law.specs.Sheet.{Sheet, WellFormed, sheetOctets, room}
+use Rattle.law.specs.Sheet.{Sheet, WellFormed, allows, sheetOctets, room}
 use Rattle.law.proofs.Complete.{complete}
 use Rattle.law.proofs.OneSheet.{one-sheet}
 use Rattle.link.specs.Stored.{stateOf}
@@ -19,7 +19,7 @@ use Rattle.link.specs.declared.stored.Stored.{Stored}
 use Rattle.link.specs.declared.stored.Stored.the-variants.{State, Invalid}
 use Rattle.sheet.specs.Walk.{verdictOf}
 use Rattle.slave.specs.Answers.{told}
-use Rattle.slave.specs.Calls.{resetOf}
+use Rattle.slave.specs.Calls.{resetOf, turnOf}
 use Rattle.slave.specs.Exchange.{exchangeOf}
 use Rattle.slave.specs.Wanted.{Stepped, steppedOf}
 use Rattle.slave.proofs.Order.{on-valid, on-invalid, on-state}
@@ -29,13 +29,13 @@ use Rattle.replay.specs.declared.form.Record.{Record}
 use Rattle.slave.specs.declared.answers.Answer.{Answer}
 use Rattle.demands.specs.Hidden.{Readable, Seen, seen, Demand3}
 use Rattle.demands.specs.Refused.{RefusedChangesNothing, ValidRecord, EachState, StatesStayValid}
-use Rattle.demands.specs.Sequences.{Call, Reset, Enable, Exchange, Replay, withoutReply, callOf, runOf, lastMemory}
+use Rattle.demands.specs.Sequences.{Call, Reset, Enable, Turn, Exchange, Replay, withoutReply, callOf, runOf, lastMemory}
 use Rattle.demands.specs.Writes.{MemoryKeepsItsLength, agreeing, ReachedIn, ReplayReached, ReachedBy, Reached}
 use Rattle.demands.proofs.Agreed.{traces-have-replies}
 use Rattle.demands.proofs.Lengths.{memory-keeps}
 use Rattle.demands.proofs.Playing.{told-of, refused-replay-writes-nothing, secrets-in-whole-replay}
 use Rattle.demands.proofs.Reached.{play-kept}
-use Rattle.demands.proofs.Refusals.{by-sheet, by-state, reset-keeps, enable-keeps, exchange-keeps, Held, reset-valid, again-reset, then-enable, then-exchange, held, valid}
+use Rattle.demands.proofs.Refusals.{by-sheet, by-state, reset-keeps, enable-keeps, turn-keeps, exchange-keeps, Held, reset-valid, turn-valid, again-reset, then-enable, then-turn, then-exchange, held, valid}
 use Rattle.demands.proofs.Replays.{played}
 use Rattle.demands.proofs.Secrets.{Kept, still, exchange-kept}
 
@@ -43,6 +43,7 @@ pub refused-changes-nothing : RefusedChangesNothing
 unfolding callOf
 refused-changes-nothing sheet state memory Reset n = reset-keeps sheet state memory n
 refused-changes-nothing sheet state memory Enable n = enable-keeps sheet state memory n
+refused-changes-nothing sheet state memory (Turn old) n = turn-keeps sheet state memory old n
 refused-changes-nothing sheet state memory (Exchange command reply) n = exchange-keeps sheet state memory command reply n
 refused-changes-nothing sheet state memory (Replay trace) n =
     let e = refused-replay-writes-nothing sheet state memory trace (n .0) (n .1) in (e .0, e .1, refl)
@@ -65,13 +66,14 @@ module _ (sheet : List ℕ) (Q : List ℕ → List ℕ → Type 0)
       let K : Replayed → Type 0 = λ r. Q (r .state) (r .memory) in
       by-sheet K (verdictOf sheet) _ _ (λ fault place. q)
       (λ lay v.
-      by-state K (stateOf state (lay .l)) _ _ q
+      by-state K (stateOf state (lay .l) (lay .tolerance)) _ _ q
       (λ st s. pick-both K _ q (pick-both K _ q (pick-both K _ q (plays-keep (lay .l) 0 (tracedOf (lay .l) trace) state memory q)))))
 
 then-call : (sheet state memory : List ℕ) → Held sheet state → (c : Call) → Held sheet (callOf sheet state memory c .state)
 unfolding callOf
 then-call sheet state memory ok Reset = again-reset sheet state memory ok
 then-call sheet state memory ok Enable = then-enable sheet state memory ok
+then-call sheet state memory ok (Turn old) = then-turn sheet state memory ok old
 then-call sheet state memory ok (Exchange command reply) = then-exchange sheet state memory ok command reply
 then-call sheet state memory ok (Replay trace) =
     replay-keeps sheet (λ s m. Held sheet s) (λ s m command reply q. then-exchange sheet s m q command reply) state memory trace ok
@@ -88,12 +90,14 @@ pub states-stay-valid : StatesStayValid
 states-stay-valid = record {
   from-a-valid-one = λ h w state memory v calls. run-valid h w calls state memory (held h w state v);
   reset-leaves-one = λ h w state e. valid h w (resetOf (sheetOctets h) state .state) (reset-valid (sheetOctets h) state e);
+  turning-leaves-one = λ h w old state e. valid h w (turnOf (sheetOctets h) old state .state) (turn-valid (sheetOctets h) old state e);
 }
 
 pub memory-keeps-its-length : MemoryKeepsItsLength
 unfolding callOf
 memory-keeps-its-length sheet state memory Reset = refl
 memory-keeps-its-length sheet state memory Enable = refl
+memory-keeps-its-length sheet state memory (Turn old) = refl
 memory-keeps-its-length sheet state memory (Exchange command reply) = memory-keeps sheet state memory command reply
 memory-keeps-its-length sheet state memory (Replay trace) =
     replay-keeps sheet (λ s m. length m ≡ length memory) (λ s m command reply q. memory-keeps sheet s m command reply ∙ q) state memory trace refl
@@ -130,9 +134,9 @@ module _ (h : Sheet) (w : WellFormed h) (state m₁ m₂ trace : List ℕ) (w₁
   plays-too : replayOf (sheetOctets h) state m₁ trace ≡ playOf (sheetOctets h) (h .l) 0 state m₁ ts
       → replayOf (sheetOctets h) state m₂ trace ≡ playOf (sheetOctets h) (h .l) 0 state m₂ ts
   unfolding replayOf
-  plays-too p = go (stateOf state (h .l)) refl
+  plays-too p = go (stateOf state (h .l) (allows h)) refl
     where
-      go : (s : Stored) → stateOf state (h .l) ≡ s → replayOf (sheetOctets h) state m₂ trace ≡ playOf (sheetOctets h) (h .l) 0 state m₂ ts
+      go : (s : Stored) → stateOf state (h .l) (allows h) ≡ s → replayOf (sheetOctets h) state m₂ trace ≡ playOf (sheetOctets h) (h .l) 0 state m₂ ts
       go Invalid s =
           absurd (refuses (told 1 0) (on-valid _ _ _ _ (complete h w) ∙ on-invalid _ _ _ s) (λ e. let k : ⊥ = omega arith in k) (λ e. let k : ⊥ = omega arith in k) p)
       go (State st) s =
@@ -175,6 +179,7 @@ module _ (h : Sheet) (w : WellFormed h) (E : ℕ → Type 0) (readable : (i : �
     unfolding callOf
     call-kept Reset = still h w E readable state m₁ m₂ w₁ w₂ agree _ _ [] (λ i. ⊥) (λ i r. absurd r)
     call-kept Enable = still h w E readable state m₁ m₂ w₁ w₂ agree _ _ [] (λ i. ⊥) (λ i r. absurd r)
+    call-kept (Turn old) = still h w E readable state m₁ m₂ w₁ w₂ agree _ _ [] (λ i. ⊥) (λ i r. absurd r)
     call-kept (Exchange command reply) = exchange-kept h w E readable state m₁ m₂ w₁ w₂ agree command reply
     call-kept (Replay trace) = replay-kept trace
 

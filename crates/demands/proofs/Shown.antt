@@ -16,7 +16,7 @@ use Rattle.law.specs.Sheet.{Sheet}
 use Rattle.law.specs.State.{link}
 use Rattle.law.specs.Memory.{Cell, cells, readable, has, hasAll, heldAt, held}
 use Rattle.law.specs.Table.{Check, check, Row, table, parameter, address, n}
-use Rattle.law.specs.Exchange.{fate, code, missed, lost, checked, judged, fateOf}
+use Rattle.law.specs.Exchange.{fate, code, missed, checked, judged, fateOf, failing, passing, Fate}
 use Rattle.law.proofs.Laid.{when-yes, when-no}
 use Rattle.demands.specs.Writes.{cellAt}
 use Rattle.demands.specs.Places.{Holds}
@@ -141,4 +141,4 @@ module _ (h : Sheet) (s m₁ m₂ c : List ℕ) (agree : AgreeShown (cells (h .r
 
   pub fate-same : fateOf h s m₁ c ≡ fateOf h s m₂ c
   unfolding fateOf
-  fate-same = ap (when (missed s c) lost) row-same
+  fate-same = ap (λ (f : Fate). when (missed s c) (failing h s) (passing f)) row-same

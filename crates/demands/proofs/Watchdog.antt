@@ -2,32 +2,33 @@
 --     known-after, last-after, rsn-after, link-after     the watchdog's fields behind an exchange that begins and ends in link 3
 --     passes, asked                                      when check 1 does not fail, and what then holds
 --     row-keeps                                          no command but DISCONNECT leaves link 3
-use mathlib.Core.Bool.{Bool, true, false, not, and-eq-true-iff, _&&_, _||_}
+use mathlib.Core.Bool.{Bool, true, false, not, and-eq-true-iff, true≢false, _&&_, _||_}
 use mathlib.Core.Logic.{inl, inr, ⊎-elim}
 use mathlib.Core.Path.{_≡_, refl, sym, ap, ap₂, _∙_}
 use mathlib.Core.List.{List, [], _∷_}
 use Prim.Native.Nat.{ℕ, _+_, _*_, _/_, _%_, _≤_, _<_}
 use native.Mathlib.Omega.{arith}
 use borrow.Author.Tests.{eqb-true, eq-eqb}
-use lib.Dec.{eqb}
+use lib.Dec.{eqb, ltb}
 use lib.ListN.{length, getD}
 use Rattle.octets.proofs.Cases.{decided}
 use Rattle.law.specs.Words.{when, oneOf, Piece, piece, laid, over}
-use Rattle.law.specs.Sheet.{Sheet}
-use Rattle.law.specs.State.{link, mnKnown, lastMn, rsn, commandLatch}
+use Rattle.law.specs.Sheet.{Sheet, allows}
+use Rattle.law.specs.State.{link, mnKnown, lastMn, rsn, commandLatch, failures}
 use Rattle.law.specs.Table.{table}
 use Rattle.law.specs.Exchange.{Fate, code, mn, sn, missed, lost, refused, judged, fateOf, watched, stateAfter}
 use Rattle.law.proofs.Clauses.{valid-true}
 use Rattle.law.proofs.Laid.{when-yes, over-at, over-length}
 use Rattle.slave.specs.Exchange.{Left, exchangeOf}
-use Rattle.demands.specs.Answered.{Answered}
+use Rattle.demands.specs.Answered.{Answered, toleratedIn}
 use Rattle.demands.specs.Watchdog.{Asks, Fails, BothAreAsked, SameSnFails, Exchanged, rwdt, Stays, Master, InStep, MasterNeverFails}
 use Rattle.demands.proofs.Done.{least-length, answered-done, seen-link, seen-rwdt}
-use Rattle.demands.proofs.Exact.{link-is, lost-link}
-use Rattle.demands.proofs.Fates.{named, judged-in, latch-stays, row-stays, fate-missed, fate-kept}
+use Rattle.demands.proofs.Counts.{failing-no, tolerated-shown, passed-shown}
+use Rattle.demands.proofs.Exact.{link-is, lost-link, kept-link}
+use Rattle.demands.proofs.Fates.{named, judged-in, latch-stays, row-stays, fate-kept}
 
 -- the watchdog's fields behind an exchange that begins and ends in link 3
-module _ (s : List ℕ) (sent : ℕ) (changes : List Piece) (ten : length s ≡ 10) (three : link s ≡ 3) (still : link (over changes s) ≡ 3) where
+module _ (s : List ℕ) (sent : ℕ) (changes : List Piece) (eleven : length s ≡ 11) (three : link s ≡ 3) (still : link (over changes s) ≡ 3) where
   abbrev counted : List Piece
   counted = piece 5 (1 ∷ sent ∷ (rsn s + 1) % 16 ∷ []) ∷ []
 
@@ -35,7 +36,7 @@ module _ (s : List ℕ) (sent : ℕ) (changes : List Piece) (ten : length s ≡ 
   unfolding watched
   is-watched = when-yes _ _ (eq-eqb (link s) 3 three) ∙ when-yes _ _ (eq-eqb (link (over changes s)) 3 still)
 
-  octet-after : (k : ℕ) → k < 10 → getD (stateAfter s sent changes) k 0 ≡ laid counted (0 + k) (getD (over changes s) k 0)
+  octet-after : (k : ℕ) → k < 11 → getD (stateAfter s sent changes) k 0 ≡ laid counted (0 + k) (getD (over changes s) k 0)
   unfolding stateAfter
   octet-after k l =
       let n = over-length 0 changes s in
@@ -113,8 +114,8 @@ module _ (h : Sheet) (sheet s m c r : List ℕ) (a : Answered h sheet s m c r) w
   abbrev changes : List Piece
   changes = fateOf h s m c .changes
 
-  ten : length s ≡ 10
-  ten = valid-true h s (a .valid) .0
+  eleven : length s ≡ 11
+  eleven = valid-true h s (a .valid) .0
 
   long : 8 ≤ h .l
   long = least-length (h .l) (a .good .l)
@@ -125,17 +126,20 @@ module _ (h : Sheet) (sheet s m c r : List ℕ) (a : Answered h sheet s m c r) w
   -- the link behind it is what the command made of it
   link-over : link (x .state) ≡ link (over changes s)
   link-over =
-      let n = ten in
+      let n = eleven in
       ap link state-is ∙ seen-link h s m c long (omega arith) ∙ sym (over-at 0 changes s 1 (omega arith))
 
   falls : missed s c ≡ true → Fails s x
   falls e = record {
     was = eqb-true (link s) 3 (and-eq-true-iff (eqb (link s) 3) _ .0 e .0);
-    falls = link-is h sheet s m c r a lost (fate-missed h s m c e) ∙ lost-link h sheet s m c r a (link s);
+    shows = ⊎-elim
+        (λ (l : ltb (failures s) (allows h) ≡ true). inr (tolerated-shown h sheet s m c r a e l))
+        (λ (l : ltb (failures s) (allows h) ≡ false). inl (link-is h sheet s m c r a lost (failing-no h sheet s m c r a e l) ∙ lost-link h sheet s m c r a (link s)))
+        (decided (ltb (failures s) (allows h)));
   }
 
   rsn-next : link s ≡ 3 → link (x .state) ≡ 3 → rsn (x .state) ≡ (rsn s + 1) % 16
-  rsn-next three still = ap rsn state-is ∙ rsn-after s (mn c) changes ten three (sym link-over ∙ still)
+  rsn-next three still = ap rsn state-is ∙ rsn-after s (mn c) changes eleven three (sym link-over ∙ still)
 
 -- the state behind a command and its reply, as a master that read the reply knows it
 record Behind (state last reply : List ℕ) : Type 0 where
@@ -150,13 +154,13 @@ passed h sheet s m c r a three go stays =
     let x = exchangeOf sheet s m c r in
     let ch = fateOf h s m c .changes in
     let still : link (over ch s) ≡ 3 =
-    sym (link-over h sheet s m c r a) ∙ link-is h sheet s m c r a _ (fate-kept h s m c go) ∙ row-keeps h s m c three stays in
+    sym (link-over h sheet s m c r a) ∙ link-is h sheet s m c r a _ (fate-kept h s m c go) ∙ kept-link h sheet s m c r a (row h s m c) ∙ row-keeps h s m c three stays in
     let t = stateAfter s (mn c) ch in
     let is = state-is h sheet s m c r a in
     let link-three : link t ≡ 3 = sym (ap link is) ∙ link-over h sheet s m c r a ∙ still in
     let told : rwdt (x .reply) ≡ 16 * rsn t + mn c =
     ap (λ (l : Left). rwdt (l .reply)) (answered-done h sheet s m c r a) ∙ seen-rwdt h s m c (long h sheet s m c r a) ∙ when-yes _ _ (eq-eqb (link t) 3 link-three) in
-    let n = ten h sheet s m c r a in
+    let n = eleven h sheet s m c r a in
     record {
       watched = record { synchronous = ap link is ∙ link-three; known = ap mnKnown is ∙ known-after s (mn c) ch n three still };
       last-mn = ap lastMn is ∙ last-after s (mn c) ch n three still;
@@ -167,7 +171,12 @@ passed h sheet s m c r a three go stays =
 missed-it : (h : Sheet) (sheet s m c r : List ℕ) → Answered h sheet s m c r → Fails s (exchangeOf sheet s m c r) → missed s c ≡ true
 missed-it h sheet s m c r a f =
     ⊎-elim (λ (q : missed s c ≡ true). q)
-    (λ (q : missed s c ≡ false). absurd (row-stays h s m c (f .was) (sym (link-is h sheet s m c r a _ (fate-kept h s m c q)) ∙ f .falls)))
+    (λ (q : missed s c ≡ false).
+    absurd (⊎-elim
+    (λ (two : link (exchangeOf sheet s m c r .state) ≡ 2).
+    row-stays h s m c (f .was) (sym (kept-link h sheet s m c r a (row h s m c)) ∙ sym (link-is h sheet s m c r a _ (fate-kept h s m c q)) ∙ two))
+    (λ (t : toleratedIn (exchangeOf sheet s m c r .reply) ≡ true). true≢false (sym t ∙ passed-shown h sheet s m c r a q))
+    (f .shows)))
     (decided (missed s c))
 
 never : {A : Type 0} → _≡_ {A = Bool} true false → A
@@ -208,8 +217,9 @@ goes-on h sheet s m last reply (d ∷ ds) k (a, f, stays, rest) =
     let c = d .command in
     let follows = eq-eqb (mn c) ((lastMn s + 1) % 16) (f .counts-on ∙ ap (λ (n : ℕ). (n + 1) % 16) (sym (k .last-mn))) in
     let copies = eq-eqb (sn c) (rsn s) (f .gives-back ∙ sym (k .its-rsn)) in
-    let next = passed h sheet s m c (d .lent) a (k .watched .synchronous) (passes (eqb (link s) 3) (eqb (mnKnown s) 1) (ap₂ _&&_ follows copies)) stays in
-    (next .watched .synchronous, goes-on h sheet _ _ c _ ds next rest)
+    let go = passes (eqb (link s) 3) (eqb (mnKnown s) 1) (ap₂ _&&_ follows copies) in
+    let next = passed h sheet s m c (d .lent) a (k .watched .synchronous) go stays in
+    (next .watched .synchronous, (passed-shown h sheet s m c (d .lent) a go, goes-on h sheet _ _ c _ ds next rest))
 
 pub master-never-fails : MasterNeverFails
 master-never-fails h sheet s m c r a three go stays ds all =

@@ -1,9 +1,10 @@
 -- An exchange that builds a reply, and what a host reads in the octets that it leaves.
 use Prim.Native.Nat.{ℕ, _%_}
-use mathlib.Core.Bool.{true}
+use mathlib.Core.Bool.{Bool, true}
 use mathlib.Core.List.{List}
 use mathlib.Core.Path.{_≡_}
 use lib.ListN.{length, getD}
+use Rattle.law.specs.Words.{bit}
 use Rattle.law.specs.Sheet.{Sheet, WellFormed, sheetOctets, room}
 use Rattle.law.specs.State.{link, validState}
 
@@ -20,3 +21,7 @@ pub record Answered (h : Sheet) (sheet state memory command reply : List ℕ) : 
 -- "bits 8 to 11 are this command's alarm": the low half of the reply's octet 3
 abbrev pub alarmIn : List ℕ → ℕ
 alarmIn reply = getD reply 3 0 % 16
+
+-- request 9: "status bit 1 set", where a failed check 1 was tolerated
+abbrev pub toleratedIn : List ℕ → Bool
+toleratedIn reply = bit (getD reply 2 0) 1

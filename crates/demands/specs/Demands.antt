@@ -24,6 +24,7 @@ use Rattle.demands.specs.Places.{FirstFailedIsTold, UnknownCodeIsTold, O
 use Rattle.demands.specs.Refused.{RefusedChangesNothing, StatesStayValid}
 use Rattle.demands.specs.Replays.{TracesHaveReplies, AgreesExactly, ReplayIsFold, CutInTwo, FormsJoin, ReplayCutInTwo, SecretsInReplay, OnlyAgreeingReach, ReplayPlays, RecordsAreAnswered, SecretsInWholeReplay, RefusedReplayWritesNothing}
 use Rattle.demands.specs.Sequences.{Call, runOf, History}
+use Rattle.demands.specs.Tolerated.{SoManyInARow, NoneWithout, OneIsTolerated, PassingCountsNone, OldRecordsTurn}
 use Rattle.demands.specs.Unique.{OneAnswers}
 use Rattle.demands.specs.Watchdog.{BothAreAsked, SameSnFails, MasterNeverFails}
 use Rattle.demands.specs.Writes.{WritesOwnOctets, MemoryKeepsItsLength}
@@ -132,3 +133,17 @@ pub record Request8 : Type 0 where
   pub every-parameter-is-mapped : ParametersAreMapped
   -- judged with the check, spelled out there, and judged without it is the same
   pub the-check-never-fires : MappedIsNotAsked
+
+-- Document 02, request 9, "One lost cycle shouldn't stop the band". Demands 1 to 3 and the bench cases above are of the machine with it and its state record:
+-- the turning call is among the calls of a sequence, is refused as demand 1 says, and leaves a valid record (`StatesStayValid`).
+pub record Request9 : Type 0 where
+  -- "allows that many failures in a row ..; one failure more is check 1 as before"
+  pub so-many-in-a-row : SoManyInARow
+  -- "none without it"
+  pub none-without-it : NoneWithout
+  -- "Within it the command isn't executed .." and nothing of the memory is told
+  pub one-is-tolerated : OneIsTolerated
+  -- "An exchange that passes check 1 sets the count to 0"
+  pub passing-counts-none : PassingCountsNone
+  -- "A call turns a valid old record into a new one."
+  pub an-old-record-is-turned : OldRecordsTurn

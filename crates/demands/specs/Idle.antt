@@ -11,7 +11,7 @@ use Rattle.slave.specs.Exchange.{Left, left, exchangeOf}
 use Rattle.demands.specs.Bench.{case1}
 use Rattle.demands.specs.Hidden.{DifferOnlyHidden, seen}
 use Rattle.demands.specs.Refused.{lentReply}
-use Rattle.demands.specs.Sequences.{Call, Reset, Enable, Exchange, Replay, callOf, runOf, lastMemory}
+use Rattle.demands.specs.Sequences.{Call, Reset, Enable, Turn, Exchange, Replay, callOf, runOf, lastMemory}
 use Rattle.demands.specs.Writes.{Reached}
 
 -- a program, by what each call of a sequence leaves, of a sheet, a state and a memory
@@ -60,6 +60,7 @@ unfoldable pub echoes : List ℕ → List ℕ → List Call → List Left
 echoes state memory [] = []
 echoes state memory (Reset ∷ cs) = left (told 0 0) state memory [] ∷ echoes state memory cs
 echoes state memory (Enable ∷ cs) = left (told 0 0) state memory [] ∷ echoes state memory cs
+echoes state memory (Turn old ∷ cs) = left (told 0 0) state memory [] ∷ echoes state memory cs
 echoes state memory (Exchange command reply ∷ cs) = left (told 0 0) state memory command ∷ echoes state memory cs
 echoes state memory (Replay trace ∷ cs) = left (told 0 0) state memory [] ∷ echoes state memory cs
 
@@ -70,6 +71,8 @@ echoesAfterwards sheet state memory (Reset ∷ cs) =
     callOf sheet state memory Reset ∷ echoesAfterwards sheet (callOf sheet state memory Reset .state) memory cs
 echoesAfterwards sheet state memory (Enable ∷ cs) =
     callOf sheet state memory Enable ∷ echoesAfterwards sheet (callOf sheet state memory Enable .state) memory cs
+echoesAfterwards sheet state memory (Turn old ∷ cs) =
+    callOf sheet state memory (Turn old) ∷ echoesAfterwards sheet (callOf sheet state memory (Turn old) .state) memory cs
 echoesAfterwards sheet state memory (Replay trace ∷ cs) =
     callOf sheet state memory (Replay trace)
     ∷ echoesAfterwards sheet (callOf sheet state memory (Replay trace) .state) (callOf sheet state memory (Replay trace) .memory) cs

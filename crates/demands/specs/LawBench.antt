@@ -17,6 +17,7 @@ lawP = record {
   regions = record { start = 0x1000; length = 4; rights = 3 } ∷ record { start = 0x1004; length = 4; rights = 6 } ∷ [];
   parameters = record { number = 7; address = 0x1002; size = 2 } ∷ [];
   items = [];
+  tolerances = [];
 }
 
 -- what a case wants, as a result

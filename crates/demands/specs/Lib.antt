@@ -12,6 +12,7 @@ pub mod Identity
 pub mod Mapped
 pub mod Places
 pub mod Watchdog
+pub mod Tolerated
 pub mod Replays
 pub mod Unique
 pub mod Bench

@@ -5,22 +5,22 @@ use mathlib.Core.List.{List}
 use mathlib.Core.Path.{_≡_}
 use lib.ListN.{length, getD}
 use Rattle.law.specs.Sheet.{Sheet}
-use Rattle.law.specs.Exchange.{mn, missed, lost, refused, stateAfter}
+use Rattle.law.specs.Exchange.{mn, missed, failing, passing, refused, stateAfter}
 use Rattle.slave.specs.Exchange.{Left, exchangeOf}
 use Rattle.demands.specs.Accepted.{accepted}
 use Rattle.demands.specs.Answered.{Answered, alarmIn}
 
 -- what a refused command leaves: a reply of L octets with the code again and a zero body, the memory as it was, and the state of the check that refused:
--- a lost cycle, or an alarm, which is latched "if that is 0"
+-- a lost cycle, tolerated or not, or an alarm, which is latched "if that is 0"
 pub record RefusedByReply (h : Sheet) (state memory command : List ℕ) (l : Left) : Type 0 where
   pub reply-built : l .answer .number ≡ 0
   pub nothing-stored : l .memory ≡ memory
   pub whole : length (l .reply) ≡ h .l
   pub code-again : getD (l .reply) 0 0 ≡ getD command 0 0
   pub zero-body : (k : ℕ) → 4 ≤ k → getD (l .reply) k 0 ≡ 0
-  pub by-watchdog : missed state command ≡ true → (alarmIn (l .reply) ≡ 0) × (l .state ≡ stateAfter state (mn command) (lost .changes))
+  pub by-watchdog : missed state command ≡ true → (alarmIn (l .reply) ≡ 0) × (l .state ≡ stateAfter state (mn command) (failing h state .changes))
   pub by-alarm : missed state command ≡ false
-      → (alarmIn (l .reply) ≡ 0 → ⊥) × (l .state ≡ stateAfter state (mn command) (refused state (alarmIn (l .reply)) (l .answer .place) .changes))
+      → (alarmIn (l .reply) ≡ 0 → ⊥) × (l .state ≡ stateAfter state (mn command) (passing (refused state (alarmIn (l .reply)) (l .answer .place)) .changes))
 
 -- "A command refused on the wire builds a whole reply, updates the state and stores nothing."
 abbrev pub RefusedOnTheWire : Type 0

@@ -5,14 +5,15 @@ use mathlib.Core.List.{List, [], _∷_}
 use mathlib.Core.Path.{_≡_}
 use Rattle.law.specs.Sheet.{Sheet, WellFormed, sheetOctets}
 use Rattle.law.specs.State.{validState}
-use Rattle.slave.specs.Calls.{resetOf}
+use Rattle.slave.specs.Calls.{resetOf, turnOf}
 use Rattle.slave.specs.Exchange.{Left}
-use Rattle.demands.specs.Sequences.{Call, Reset, Enable, Exchange, Replay, callOf, runOf}
+use Rattle.demands.specs.Sequences.{Call, Reset, Enable, Turn, Exchange, Replay, callOf, runOf}
 
 -- the octets lent for a reply
 abbrev pub lentReply : Call → List ℕ
 lentReply Reset = []
 lentReply Enable = []
+lentReply (Turn old) = []
 lentReply (Exchange command reply) = reply
 lentReply (Replay trace) = []
 
@@ -20,6 +21,7 @@ lentReply (Replay trace) = []
 abbrev pub IsRefused : Call → Left → Type 0
 IsRefused Reset l = l .answer .number ≡ 0 → ⊥
 IsRefused Enable l = l .answer .number ≡ 0 → ⊥
+IsRefused (Turn old) l = l .answer .number ≡ 0 → ⊥
 IsRefused (Exchange command reply) l = l .answer .number ≡ 0 → ⊥
 IsRefused (Replay trace) l = (l .answer .number ≡ 0 → ⊥) × (l .answer .number ≡ 34 → ⊥)
 
@@ -41,9 +43,12 @@ abbrev pub EachState : (List ℕ → Type 0) → List Left → Type 0
 EachState P [] = Unit {0}
 EachState P (l ∷ ls) = P (l .state) × EachState P ls
 
--- every state of a run from a valid record is a valid record, whatever memory is lent; and a reset that answered 0 leaves one, whatever the state held before
+-- every state of a run from a valid record is a valid record, whatever memory is lent; and a reset, or a turning, that answered 0 leaves one, whatever the
+-- state held before
 pub record StatesStayValid : Type 0 where
   pub from-a-valid-one : (h : Sheet) → WellFormed h → (state memory : List ℕ) → ValidRecord h state → (calls : List Call)
       → EachState (ValidRecord h) (runOf (sheetOctets h) state memory calls)
   pub reset-leaves-one : (h : Sheet) → WellFormed h → (state : List ℕ) → resetOf (sheetOctets h) state .answer .number ≡ 0
       → ValidRecord h (resetOf (sheetOctets h) state .state)
+  pub turning-leaves-one : (h : Sheet) → WellFormed h → (old state : List ℕ) → turnOf (sheetOctets h) old state .answer .number ≡ 0
+      → ValidRecord h (turnOf (sheetOctets h) old state .state)

@@ -37,7 +37,7 @@ TracesHaveReplies = (l : ℕ) (trace : List ℕ) → RepliesOf l (tracedOf l tra
 -- a start that no refusal of document 01 stops: its sheet, state, memory and an enabled link
 pub record Playable (sheet state memory : List ℕ) (lay : Layout) (st : LinkState) : Type 0 where
   pub valid : verdictOf sheet ≡ Valid lay
-  pub held : stateOf state (lay .l) ≡ State st
+  pub held : stateOf state (lay .l) (lay .tolerance) ≡ State st
   pub whole : length memory ≡ lay .memory
   pub on : st .link ≡ 0 → ⊥
 

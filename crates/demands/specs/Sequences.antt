@@ -4,17 +4,19 @@ use Prim.Native.Nat.{ℕ}
 use mathlib.Core.List.{List, [], _∷_}
 use mathlib.Core.Path.{_≡_}
 use Rattle.replay.specs.Replay.{Replayed, replayed, replayOf}
-use Rattle.slave.specs.Calls.{After, after, resetOf, enableOf}
+use Rattle.slave.specs.Calls.{After, after, resetOf, enableOf, turnOf}
 use Rattle.slave.specs.Exchange.{Left, left, exchangeOf}
 
--- a call: reset, enable, an exchange with its command and the octets that its lent reply holds, or the replay of a trace, all of any content and length
+-- a call: reset, enable, the turning of an old state record, an exchange with its command and the octets that its lent reply holds, or the replay of a trace,
+-- all of any content and length
 pub data Call : Type 0 where
   Reset : Call
   Enable : Call
+  Turn : List ℕ → Call
   Exchange : List ℕ → List ℕ → Call
   Replay : List ℕ → Call
 
--- what a call of reset or enable leaves: the memory is not lent to it, and no reply is
+-- what a call of reset, enable or turning leaves: the memory is not lent to it, and no reply is
 abbrev pub beside : List ℕ → After → Left
 beside memory a = left (a .answer) (a .state) memory []
 
@@ -26,6 +28,7 @@ withoutReply r = left (r .answer) (r .state) (r .memory) []
 unfoldable pub callOf : List ℕ → List ℕ → List ℕ → Call → Left
 callOf sheet state memory Reset = beside memory (resetOf sheet state)
 callOf sheet state memory Enable = beside memory (enableOf sheet state)
+callOf sheet state memory (Turn old) = beside memory (turnOf sheet old state)
 callOf sheet state memory (Exchange command reply) = exchangeOf sheet state memory command reply
 callOf sheet state memory (Replay trace) = withoutReply (replayOf sheet state memory trace)
 
@@ -48,6 +51,7 @@ lastMemory memory (l ∷ ls) = lastMemory (l .memory) ls
 abbrev pub Meets : List ℕ → List ℕ → List ℕ → Call → Left → Type 0
 Meets sheet state memory Reset l = (after (l .answer) (l .state) ≡ resetOf sheet state) × (l .memory ≡ memory) × (l .reply ≡ [])
 Meets sheet state memory Enable l = (after (l .answer) (l .state) ≡ enableOf sheet state) × (l .memory ≡ memory) × (l .reply ≡ [])
+Meets sheet state memory (Turn old) l = (after (l .answer) (l .state) ≡ turnOf sheet old state) × (l .memory ≡ memory) × (l .reply ≡ [])
 Meets sheet state memory (Exchange command reply) l =
     left (l .answer) (l .state) (l .memory) (l .reply) ≡ exchangeOf sheet state memory command reply
 Meets sheet state memory (Replay trace) l =

@@ -7,7 +7,7 @@ use Rattle.link.specs.declared.state.LinkState.{LinkState}
 use Rattle.sheet.specs.Walk.{verdictOf}
 use Rattle.sheet.specs.declared.walk.Layout.{Layout}
 use Rattle.slave.specs.Answers.{sheetAnswer}
-use Rattle.slave.specs.Calls.{after, resetOf, enableOf}
+use Rattle.slave.specs.Calls.{after, resetOf, enableOf, turnOf}
 use Rattle.slave.specs.Exchange.{left, exchanged, exchangeOf}
 use Rattle.slave.specs.Wanted.{stepped, performed, performedOf}
 use Rattle.slave.specs.declared.answers.Answer.{Answer}
@@ -18,7 +18,7 @@ use Rattle.type24.specs.Packed.{packed, packedAfter, afterCall, packedLeft, lef
 abbrev pub OneAnswer : Type 1
 OneAnswer = (A : Type 0) (x y defined : A) → x ≡ defined → y ≡ defined → x ≡ y
 
--- the promises of type24/src/lib.rt: t24_sheet, t24_lengths, t24_reset, t24_enable, t24_exchange
+-- the promises of type24/src/lib.rt: t24_sheet, t24_lengths, t24_reset, t24_enable, t24_turn, t24_exchange
 abbrev pub OneSheet : Type 0
 OneSheet = (sheet : List ℕ) (r q : ℕ) → r ≡ packed (sheetAnswer (verdictOf sheet)) → q ≡ packed (sheetAnswer (verdictOf sheet)) → r ≡ q
 
@@ -35,6 +35,11 @@ OnePackedEnable =
     (sheet state : List ℕ) (r q : ℕ) (s t : List ℕ)
     → packedAfter r s ≡ afterCall (enableOf sheet state) → packedAfter q t ≡ afterCall (enableOf sheet state) → (r ≡ q) × (s ≡ t)
 
+abbrev pub OnePackedTurn : Type 0
+OnePackedTurn =
+    (sheet old state : List ℕ) (r q : ℕ) (s t : List ℕ)
+    → packedAfter r s ≡ afterCall (turnOf sheet old state) → packedAfter q t ≡ afterCall (turnOf sheet old state) → (r ≡ q) × (s ≡ t)
+
 abbrev pub OnePackedExchange : Type 0
 OnePackedExchange =
     (sheet state memory command reply : List ℕ) (r q : ℕ) (s t m n o p : List ℕ)
@@ -50,7 +55,7 @@ OnePackedReplay =
     → packedReplay q t n ≡ byReplay (replayOf sheet state memory trace)
     → (r ≡ q) × (s ≡ t) × (m ≡ n)
 
--- the promises of slave: reset, enable, exchange
+-- the promises of slave: reset, enable, turn, exchange
 abbrev pub OneReset : Type 0
 OneReset =
     (sheet state : List ℕ) (r q : Answer) (s t : List ℕ) → after r s ≡ resetOf sheet state → after q t ≡ resetOf sheet state → (r ≡ q) × (s ≡ t)
@@ -58,6 +63,10 @@ OneReset =
 abbrev pub OneEnable : Type 0
 OneEnable =
     (sheet state : List ℕ) (r q : Answer) (s t : List ℕ) → after r s ≡ enableOf sheet state → after q t ≡ enableOf sheet state → (r ≡ q) × (s ≡ t)
+
+abbrev pub OneTurn : Type 0
+OneTurn =
+    (sheet old state : List ℕ) (r q : Answer) (s t : List ℕ) → after r s ≡ turnOf sheet old state → after q t ≡ turnOf sheet old state → (r ≡ q) × (s ≡ t)
 
 abbrev pub OneExchange : Type 0
 OneExchange =
@@ -95,10 +104,12 @@ pub record OneAnswers : Type 1 where
   pub t24-lengths : OneLengths
   pub t24-reset : OnePackedReset
   pub t24-enable : OnePackedEnable
+  pub t24-turn : OnePackedTurn
   pub t24-exchange : OnePackedExchange
   pub t24-replay : OnePackedReplay
   pub slave-reset : OneReset
   pub slave-enable : OneEnable
+  pub slave-turn : OneTurn
   pub slave-exchange : OneExchange
   pub slave-perform : OnePerform
   pub replay-step : OneStep

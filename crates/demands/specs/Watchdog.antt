@@ -1,7 +1,7 @@
 -- Document 02, request 5: "A master that had stopped reading our replies kept counting MN, and our drive stayed in step with it. The high half SN of WDT is
 -- the master's copy of the RSN in our last reply."
 use Prim.Native.Nat.{ℕ, _+_, _/_, _%_}
-use mathlib.Core.Bool.{false}
+use mathlib.Core.Bool.{true, false}
 use mathlib.Core.List.{List, [], _∷_}
 use mathlib.Core.Logic.{_⊎_, _↔_}
 use mathlib.Core.Path.{_≡_}
@@ -10,17 +10,18 @@ use Rattle.law.specs.Sheet.{Sheet}
 use Rattle.law.specs.State.{link, mnKnown, lastMn, rsn}
 use Rattle.law.specs.Exchange.{code, mn, sn, missed}
 use Rattle.slave.specs.Exchange.{Left, exchangeOf}
-use Rattle.demands.specs.Answered.{Answered}
+use Rattle.demands.specs.Answered.{Answered, toleratedIn}
 
 -- the state in which check 1 asks: link 3, and MN is known
 pub record Asks (state : List ℕ) : Type 0 where
   pub synchronous : link state ≡ 3
   pub known : mnKnown state ≡ 1
 
--- check 1 fails, by what a host sees: the link falls from 3 to 2, which no command that is judged makes it do
+-- check 1 fails, by what a host sees: the link falls from 3 to 2, which no command that is judged makes it do, or the failure is tolerated, and status bit 1
+-- is set
 pub record Fails (state : List ℕ) (l : Left) : Type 0 where
   pub was : link state ≡ 3
-  pub falls : link (l .state) ≡ 2
+  pub shows : (link (l .state) ≡ 2) ⊎ (toleratedIn (l .reply) ≡ true)
 
 -- "MN follows", and "SN equals the state's RSN"
 abbrev pub BothHold : List ℕ → List ℕ → Type 0
@@ -69,12 +70,12 @@ Master h sheet state memory last reply (d ∷ ds) =
     Answered h sheet state memory (d .command) (d .lent) × Follows last reply (d .command) × Stays (d .command)
     × (let x = exchangeOf sheet state memory (d .command) (d .lent) in Master h sheet (x .state) (x .memory) (d .command) (x .reply) ds)
 
--- each leaves link 3 as it was: check 1 fails in none
+-- each leaves link 3 as it was, and status bit 1 is not set: check 1 fails in none, tolerated or not
 abbrev pub InStep : List ℕ → List ℕ → List ℕ → List Exchanged → Type 0
 InStep sheet state memory [] = Unit {0}
 InStep sheet state memory (d ∷ ds) =
     let x = exchangeOf sheet state memory (d .command) (d .lent) in
-    (link (x .state) ≡ 3) × InStep sheet (x .state) (x .memory) ds
+    (link (x .state) ≡ 3) × (toleratedIn (x .reply) ≡ false) × InStep sheet (x .state) (x .memory) ds
 
 -- from a first command on that passes check 1, as any does where MN is not known, over any number of exchanges
 abbrev pub MasterNeverFails : Type 0

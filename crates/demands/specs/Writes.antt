@@ -18,7 +18,7 @@ use Rattle.slave.specs.Exchange.{Left, exchangeOf}
 use Rattle.slave.specs.Wanted.{differsAt}
 use Rattle.demands.specs.Accepted.{accepted}
 use Rattle.demands.specs.Answered.{Answered}
-use Rattle.demands.specs.Sequences.{Call, Reset, Enable, Exchange, Replay, callOf}
+use Rattle.demands.specs.Sequences.{Call, Reset, Enable, Turn, Exchange, Replay, callOf}
 
 -- the cell of a place of the memory; past the end, one without a right
 abbrev pub cellAt : List Cell → ℕ → Cell
@@ -87,6 +87,7 @@ pub record ReplayReached (sheet state memory trace : List ℕ) (place : ℕ) : T
 abbrev pub ReachedBy : List ℕ → List ℕ → List ℕ → Call → ℕ → Type 0
 ReachedBy sheet state memory Reset place = ⊥
 ReachedBy sheet state memory Enable place = ⊥
+ReachedBy sheet state memory (Turn old) place = ⊥
 ReachedBy sheet state memory (Exchange command reply) place = (k : ℕ) × Wrote sheet state memory command reply place k
 ReachedBy sheet state memory (Replay trace) place = ReplayReached sheet state memory trace place
 

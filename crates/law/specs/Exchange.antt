@@ -58,6 +58,10 @@ lost = fate 0 0 (piece 1 (2 ∷ []) ∷ piece 9 (12 ∷ []) ∷ []) [] []
 abbrev pub tolerated : List ℕ → Fate
 tolerated s = fate 0 0 (piece 10 ((failures s + 1) ∷ []) ∷ []) [] []
 
+-- the sheet "allows that many failures in a row ..; one failure more is check 1 as before"
+abbrev pub failing : Sheet → List ℕ → Fate
+failing h s = when (ltb (failures s) (allows h)) (tolerated s) lost
+
 -- "An exchange that passes check 1 sets the count to 0"
 abbrev pub passing : Fate → Fate
 passing f = fate (f .alarm) (f .place) (piece 10 (0 ∷ []) ∷ f .changes) (f .body) (f .stores)
@@ -68,7 +72,7 @@ missed s c = eqb (link s) 3 && (eqb (mnKnown s) 1 && not (eqb (mn c) ((lastMn s 
 unfoldable pub fateOf : Sheet → List ℕ → List ℕ → List ℕ → Fate
 fateOf h s m c =
     when (missed s c)
-    (when (ltb (failures s) (allows h)) (tolerated s) lost)
+    (failing h s)
     (passing (judged s (code c) (table h s m c)))
 
 -- "An exchange that begins and ends in link 3 stores MN as known and adds 1 to RSN modulo 16, refused or not. .. On entry to link 3 MN is not known and

@@ -5,6 +5,7 @@
 --     valid-parameter   a parameter that was found has a size in range, and its span lies wholly in regions
 --     valid-item        an ID item that was found has a length in range
 --     item-inside       and its octets stand inside the sheet
+--     tolerance-small   at most 3 failures in a row are tolerated
 --     length-least      L is at least 8
 --     length-most       and at most 64
 --     same-layout       a sheet has one layout
@@ -26,7 +27,7 @@ use Rattle.sheet.specs.Entries.{parameterAt, parametersOf, itemFrom, ite
 use Rattle.sheet.specs.Kinds.{isLength, misplacedOf}
 use Rattle.sheet.specs.Reading.{recordOf}
 use Rattle.sheet.specs.Sound.{Sound, Counted, Standing, FineParameter, FineItem, behind, countsOf}
-use Rattle.sheet.specs.Walk.{none, placeOf, layoutOf, endedOf, onward, walkOf, verdictOf}
+use Rattle.sheet.specs.Walk.{none, toleranceIn, placeOf, layoutOf, endedOf, onward, walkOf, verdictOf}
 use Rattle.sheet.specs.declared.entries.Parameter.{Parameter}
 use Rattle.sheet.specs.declared.entries.Item.{Item}
 use Rattle.sheet.specs.declared.entries.SoughtParameter.{SoughtParameter}
@@ -49,6 +50,7 @@ pub record ValidSheet (s : List ℕ) (lay : Layout) : Type 0 where
   pub short : length s ≤ 2048
   pub octets : length s ≡ behind (countsOf lay) + 1
   pub sound : Sound s (behind (countsOf lay)) (countsOf lay)
+  pub tolerance : lay .tolerance ≡ toleranceIn s (countsOf lay)
 
 no-fault : {f : Fault} {p : ℕ} {lay : Layout} → Faulty f p ≡ Valid lay → ⊥
 no-fault e = let z : _≡_ {A = ℕ} 0 1 = cc in omega arith
@@ -80,6 +82,7 @@ module _ (s rest : List ℕ) (so : Counts) (st : Standing s rest so) (lay : Layo
         short = st .short;
         octets = omega (arith, h .0);
         sound = subst (λ (at : ℕ). Sound s at so) (h .0) (st .sound);
+        tolerance = refl;
       }))
       (st .sound .begun)
 
@@ -195,3 +198,12 @@ module _ (s : List ℕ) (lay : Layout) (ok : ValidSheet s lay) where
 
   pub length-least : 8 ≤ lay .l
   length-least = five-least (lay .l) (ok .l-length)
+
+pub tolerance-small : (s : List ℕ) (lay : Layout) → verdictOf s ≡ Valid lay → lay .tolerance ≤ 3
+unfolding toleranceIn
+tolerance-small s lay v =
+    let ok = valid-sheet s lay v in
+    ⊎-elim
+    (λ (z : lay .tolerances ≡ 0). let e = ok .tolerance ∙ pick-eq _ _ z in omega arith)
+    (λ (z : lay .tolerances ≡ 0 → ⊥). let e = ok .tolerance ∙ pick-ne _ _ z in let f = ok .sound .tolerance-fine (omega arith) in omega arith)
+    (eq-or-ne (lay .tolerances) 0)
