@@ -71,7 +71,7 @@ module _ (h : Sheet) (sheet s m c r : List ℕ) (a : Answered h sheet s m c r) w
   passed-count go =
       let f = passing (judged s (code c) (table h s m c)) in
       ap failures (state-is f (fate-kept h s m c go)) ∙ count-after s (mn c) (f .changes) eleven
-      ∙ both-zero (eqb (link s) 3) _ (row-counts h s m c 0)
+      ∙ both-zero (eqb (link s) 3) (eqb (link (over (f .changes) s)) 3) (row-counts h s m c 0)
 
   pub passed-shown : missed s c ≡ false → toleratedIn (x .reply) ≡ false
   passed-shown go = told-by-count ∙ ap (λ (n : ℕ). not (eqb n 0)) (passed-count go)

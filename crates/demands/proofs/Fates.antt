@@ -289,6 +289,5 @@ module _ (h : Sheet) (s m c : List ℕ) where
       (λ a b. refl, (λ a b. refl, (λ a b. refl, (λ a b. refl, (λ a b. refl, (λ a b. refl, (λ a b. refl, (λ a b. refl, (λ a b. refl, (λ a b. refl, (λ a b. refl, tt)))))))))))
     where
       latch-counts : (b : Bool) (a x : ℕ) → laid (when b (piece 8 (a ∷ []) ∷ []) []) 10 x ≡ x
-      unfolding when laid
       latch-counts true a x = refl
       latch-counts false a x = refl

@@ -37,6 +37,8 @@ p-good = record {
   few-regions = (omega arith, omega arith);
   few-parameters = omega arith;
   few-items = omega arith;
+  tolerances = tt;
+  once = omega arith;
 }
 
 pub bench-by-law : BenchByLaw

@@ -118,8 +118,12 @@ module _ (h : Sheet) (sheet s m c r : List ℕ) (a : Answered h sheet s m c r) w
     abbrev row : Fate
     row = judged s (code c) (table h s m c)
 
-    fate-is : fateOf h s m c ≡ passing row
-    fate-is = fate-kept h s m c go
+    -- the reply's alarm and the answer's place are the row's
+    row-alarm : alarmIn (x .reply) ≡ row .alarm
+    row-alarm = alarm-is ∙ ap (λ (f : Fate). f .alarm) (fate-kept h s m c go)
+
+    row-place : placeIn x ≡ row .place
+    row-place = place-is ∙ ap (λ (f : Fate). f .place) (fate-kept h s m c go)
 
     -- accepted, where the row has no alarm
     accepts : row .alarm ≡ 0 → accepted h s m c ≡ true
@@ -134,12 +138,12 @@ module _ (h : Sheet) (sheet s m c r : List ℕ) (a : Answered h sheet s m c r) w
           executed-exactly = (
             λ all. exact .0 (accepts (ap (λ (f : Fate). f .alarm) (own ∙ all-done s (allChecks s q) q all))),
             λ done. no-alarm-holds s (allChecks s q) q named
-                (sym (ap (λ (f : Fate). f .alarm) (fate-is ∙ own)) ∙ sym alarm-is ∙ done .no-alarm),
+                (sym (ap (λ (f : Fate). f .alarm) own) ∙ sym row-alarm ∙ done .no-alarm),
           );
-          no-place = λ all. place-is ∙ ap (λ (f : Fate). f .place) (fate-is ∙ own ∙ all-done s (allChecks s q) q all);
+          no-place = λ all. row-place ∙ ap (λ (f : Fate). f .place) (own ∙ all-done s (allChecks s q) q all);
           first-that-fails = λ before k after split all f.
-              let to = fate-is ∙ own ∙ ap (λ (ks : List Check). checked s ks q) split ∙ first-refuses s q before k after all f in
-              (alarm-is ∙ ap (λ (g : Fate). g .alarm) to, place-is ∙ ap (λ (g : Fate). g .place) to);
+              let to = own ∙ ap (λ (ks : List Check). checked s ks q) split ∙ first-refuses s q before k after all f in
+              (row-alarm ∙ ap (λ (g : Fate). g .alarm) to, row-place ∙ ap (λ (g : Fate). g .place) to);
         }
 
     each : (rs : List Row) → namedRows rs ≡ true → Every (λ (q : Row). code c ≡ q .code → row ≡ byRow s (code c) q) rs

@@ -18,6 +18,7 @@ use Rattle.link.proofs.Back.{read-back, read-valid}
 use Rattle.machine.specs.Outcomes.{outcomeOf}
 use Rattle.sheet.specs.Walk.{verdictOf}
 use Rattle.sheet.specs.declared.walk.Layout.{Layout}
+use Rattle.sheet.proofs.Valid.{tolerance-small}
 use Rattle.slave.specs.Answers.{onState}
 use Rattle.slave.specs.Exchange.{Left, exchanged, exchangeOf}
 use Rattle.slave.proofs.Order.{on-valid, on-state}
@@ -26,6 +27,7 @@ use Rattle.replay.specs.Trace.{Traced, recordSize, recordsOf}
 use Rattle.slave.specs.declared.answers.Answer.{Answer}
 use Rattle.replay.proofs.Forms.{checked-short}
 use Rattle.replay.proofs.Steps.{is-exchanged}
+use Rattle.law.specs.Sheet.{allows}
 use Rattle.law.proofs.Complete.{complete}
 use Rattle.demands.specs.Replays.{callsOf, Alike, Playable, ReplayPlays, EachAnswered, RecordsAreAnswered, SecretsInWholeReplay, RefusedReplayWritesNothing}
 use Rattle.demands.specs.Sequences.{callOf, runOf}
@@ -58,12 +60,13 @@ module _ (sheet state memory command reply : List ℕ) (lay : Layout) (st : Link
   unfolding exchanged
   again =
       let z = p .on in
-      let facts = read-valid state (lay .l) st (p .held) .1 in
+      let facts = read-valid state (lay .l) (lay .tolerance) st (p .held) .1 in
+      let few = tolerance-small sheet lay (p .valid) in
       let on = outcome-on sheet lay st (commandOf command) (lay .l) facts (omega (arith, z)) in
       record {
         valid = p .valid;
         held = ap (λ (x : Left). stateOf (x .state) (lay .l) (lay .tolerance)) answers
-            ∙ read-back _ (lay .l) (outcome-valid sheet lay st (commandOf command) (lay .l) facts (omega (arith, z)));
+            ∙ read-back _ (lay .l) (lay .tolerance) (outcome-valid sheet lay st (commandOf command) (lay .l) facts (omega (arith, z)) (omega (arith, few)));
         whole = memory-keeps sheet state memory command reply ∙ p .whole;
         on = λ e. omega (arith, on, e);
       }

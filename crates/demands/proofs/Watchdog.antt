@@ -36,21 +36,21 @@ module _ (s : List ℕ) (sent : ℕ) (changes : List Piece) (eleven : length s �
   unfolding watched
   is-watched = when-yes _ _ (eq-eqb (link s) 3 three) ∙ when-yes _ _ (eq-eqb (link (over changes s)) 3 still)
 
-  octet-after : (k : ℕ) → k < 11 → getD (stateAfter s sent changes) k 0 ≡ laid counted (0 + k) (getD (over changes s) k 0)
+  pub octet-after : (k : ℕ) → k < 11 → getD (stateAfter s sent changes) k 0 ≡ laid counted (0 + k) (getD (over changes s) k 0)
   unfolding stateAfter
   octet-after k l =
       let n = over-length 0 changes s in
       ap (λ (ps : List Piece). getD (over ps (over changes s)) k 0) is-watched ∙ over-at 0 counted (over changes s) k (omega arith)
 
-  known-after : mnKnown (stateAfter s sent changes) ≡ 1
+  pub known-after : mnKnown (stateAfter s sent changes) ≡ 1
   unfolding laid when
   known-after = octet-after 5 (omega arith)
 
-  last-after : lastMn (stateAfter s sent changes) ≡ sent
+  pub last-after : lastMn (stateAfter s sent changes) ≡ sent
   unfolding laid when
   last-after = octet-after 6 (omega arith)
 
-  rsn-after : rsn (stateAfter s sent changes) ≡ (rsn s + 1) % 16
+  pub rsn-after : rsn (stateAfter s sent changes) ≡ (rsn s + 1) % 16
   unfolding laid when
   rsn-after = octet-after 7 (omega arith)
 
@@ -75,7 +75,7 @@ back true e = refl
 back false e = sym e
 
 -- where it does not fail and MN is known, MN follows and SN is RSN
-asked : (s c : List ℕ) → Asks s → missed s c ≡ false → (mn c ≡ (lastMn s + 1) % 16) × (sn c ≡ rsn s)
+pub asked : (s c : List ℕ) → Asks s → missed s c ≡ false → (mn c ≡ (lastMn s + 1) % 16) × (sn c ≡ rsn s)
 asked s c w e =
     let b = eqb (mn c) ((lastMn s + 1) % 16) in
     let d = eqb (sn c) (rsn s) in
@@ -219,7 +219,7 @@ goes-on h sheet s m last reply (d ∷ ds) k (a, f, stays, rest) =
     let copies = eq-eqb (sn c) (rsn s) (f .gives-back ∙ sym (k .its-rsn)) in
     let go = passes (eqb (link s) 3) (eqb (mnKnown s) 1) (ap₂ _&&_ follows copies) in
     let next = passed h sheet s m c (d .lent) a (k .watched .synchronous) go stays in
-    (next .watched .synchronous, (passed-shown h sheet s m c (d .lent) a go, goes-on h sheet _ _ c _ ds next rest))
+    (next .watched .synchronous, passed-shown h sheet s m c (d .lent) a go, goes-on h sheet _ _ c _ ds next rest)
 
 pub master-never-fails : MasterNeverFails
 master-never-fails h sheet s m c r a three go stays ds all =
