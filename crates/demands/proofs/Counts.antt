@@ -5,9 +5,9 @@
 --     lost-count         0 behind one that is not
 --     told-by-count      status bit 1 tells which
 use mathlib.Core.Bool.{Bool, true, false, not, and-eq-true-iff}
-use mathlib.Core.Path.{_≡_, refl, sym, ap, ap₂, _∙_}
+use mathlib.Core.Path.{_≡_, refl, sym, ap, _∙_}
 use mathlib.Core.List.{List, [], _∷_}
-use Prim.Native.Nat.{ℕ, _+_, _%_, _≤_}
+use Prim.Native.Nat.{ℕ, _+_, _%_}
 use native.Mathlib.Omega.{arith}
 use borrow.Author.Tests.{eqb-true, eq-eqb, ne-eqb}
 use lib.Dec.{eqb, ltb}
@@ -16,7 +16,7 @@ use Rattle.law.specs.Words.{when, Piece, piece, laid, over}
 use Rattle.law.specs.Sheet.{Sheet, allows}
 use Rattle.law.specs.State.{link, rsn, failures}
 use Rattle.law.specs.Table.{table}
-use Rattle.law.specs.Exchange.{Fate, code, mn, missed, judged, lost, tolerated, failing, passing, fateOf, watched, stateAfter}
+use Rattle.law.specs.Exchange.{Fate, code, mn, missed, judged, lost, tolerated, passing, fateOf, watched, stateAfter}
 use Rattle.law.proofs.Clauses.{valid-true}
 use Rattle.law.proofs.Laid.{when-yes, when-no, over-at, over-length}
 use Rattle.slave.specs.Exchange.{Left, exchangeOf}
@@ -77,7 +77,7 @@ module _ (h : Sheet) (sheet s m c r : List ℕ) (a : Answered h sheet s m c r) w
   passed-shown go = told-by-count ∙ ap (λ (n : ℕ). not (eqb n 0)) (passed-count go)
 
   -- check 1 fails in link 3 alone
-  in-three : missed s c ≡ true → link s ≡ 3
+  pub in-three : missed s c ≡ true → link s ≡ 3
   in-three e = eqb-true (link s) 3 (and-eq-true-iff (eqb (link s) 3) _ .0 e .0)
 
   pub failing-yes : missed s c ≡ true → ltb (failures s) (allows h) ≡ true → fateOf h s m c ≡ tolerated s
@@ -87,7 +87,7 @@ module _ (h : Sheet) (sheet s m c r : List ℕ) (a : Answered h sheet s m c r) w
   failing-no e l = fate-missed h s m c e ∙ when-no _ _ l
 
   -- a tolerated failure changes the count alone, before the watchdog's fields
-  same-link : link (over (tolerated s .changes) s) ≡ link s
+  pub same-link : link (over (tolerated s .changes) s) ≡ link s
   unfolding laid when
   same-link = let n = eleven in over-at 0 (tolerated s .changes) s 1 (omega arith)
 
@@ -101,3 +101,13 @@ module _ (h : Sheet) (sheet s m c r : List ℕ) (a : Answered h sheet s m c r) w
   pub tolerated-shown : missed s c ≡ true → ltb (failures s) (allows h) ≡ true → toleratedIn (x .reply) ≡ true
   tolerated-shown e l =
       told-by-count ∙ ap not (ap (λ (n : ℕ). eqb n 0) (tolerated-count e l) ∙ ne-eqb (failures s + 1) 0 (λ z. let w : ⊥ = omega arith in w))
+
+  -- leaving link 3 sets it to 0
+  lost-away : link (over (lost .changes) s) ≡ 2
+  unfolding laid when
+  lost-away = let n = eleven in over-at 0 (lost .changes) s 1 (omega arith)
+
+  pub lost-count : missed s c ≡ true → ltb (failures s) (allows h) ≡ false → failures (x .state) ≡ 0
+  lost-count e l =
+      ap failures (state-is lost (failing-no e l)) ∙ count-after s (mn c) (lost .changes) eleven
+      ∙ when-yes _ _ (eq-eqb (link s) 3 (in-three e)) ∙ when-no _ _ (ap (λ (k : ℕ). eqb k 3) lost-away)

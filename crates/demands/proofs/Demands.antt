@@ -1,7 +1,7 @@
 -- The owner's page, proved.
 use Rattle.law.proofs.ByTables.{by-tables, one-reading}
 use Rattle.law.proofs.Promises.{promises}
-use Rattle.demands.specs.Demands.{FirstDemand, SecondDemand, ThirdDemand, IdlePrograms, OnTheBench, Request1, Request3, Request5, Request6, Request8}
+use Rattle.demands.specs.Demands.{FirstDemand, SecondDemand, ThirdDemand, IdlePrograms, OnTheBench, Request1, Request3, Request5, Request6, Request8, Request9}
 use Rattle.demands.proofs.Agreed.{traces-have-replies, agrees-exactly}
 use Rattle.demands.proofs.Alone.{refuses-all-keeps-secrets, single-reply-keeps-secrets, stores-nothing-keeps-secrets, echoes-afterwards-keeps-secrets, invents-rsn-keeps-secrets, invents-rsn-agrees-where-reached}
 use Rattle.demands.proofs.Bench.{sheet-p-is-valid, bench-cases}
@@ -22,6 +22,8 @@ use Rattle.demands.proofs.Reached.{secrets-in-replay, only-agreeing-rea
 use Rattle.demands.proofs.Runs.{refused-changes-nothing, states-stay-valid, memory-keeps-its-length, demand-3}
 use Rattle.demands.proofs.Shut.{refuses-all-is-shut-out, single-reply-is-shut-out, stores-nothing-is-shut-out, echoes-afterwards-is-shut-out, invents-rsn-is-shut-out}
 use Rattle.demands.proofs.Unique.{one-answers}
+use Rattle.demands.proofs.Tolerated.{so-many-in-a-row, none-without, one-is-tolerated, passing-counts-none}
+use Rattle.demands.proofs.Turned.{old-records-turn}
 use Rattle.demands.proofs.Watchdog.{both-are-asked, same-sn-fails, master-never-fails}
 
 pub first-demand : FirstDemand
@@ -94,3 +96,12 @@ request-6 = record {
 
 pub request-8 : Request8
 request-8 = record { every-parameter-is-mapped = parameters-are-mapped; the-check-never-fires = mapped-is-not-asked }
+
+pub request-9 : Request9
+request-9 = record {
+  so-many-in-a-row = so-many-in-a-row;
+  none-without-it = none-without;
+  one-is-tolerated = one-is-tolerated;
+  passing-counts-none = passing-counts-none;
+  an-old-record-is-turned = old-records-turn;
+}

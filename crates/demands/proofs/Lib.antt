@@ -17,6 +17,8 @@ pub mod Mapped
 pub mod Places
 pub mod Lacking
 pub mod Watchdog
+pub mod Tolerated
+pub mod Turned
 pub mod Shut
 pub mod Replays
 pub mod Agreed

@@ -55,7 +55,7 @@ module _ (s : List ℕ) (sent : ℕ) (changes : List Piece) (eleven : length s �
   rsn-after = octet-after 7 (omega arith)
 
 -- check 1, as the law has it
-passes : (a b : Bool) {c : Bool} → c ≡ true → a && (b && not c) ≡ false
+pub passes : (a b : Bool) {c : Bool} → c ≡ true → a && (b && not c) ≡ false
 passes a b e = ap (λ (c : Bool). a && (b && not c)) e ∙ none a b
   where
     none : (a b : Bool) → a && (b && false) ≡ false
