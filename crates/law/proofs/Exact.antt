@@ -26,7 +26,8 @@ use Rattle.law.proofs.Checks.{same-number}
 use Rattle.law.proofs.Readings.{area-at, param-at, regions-listed, behind-link}
 use Rattle.law.proofs.Complete.{come-behind, behind-all, behind-items, ident-long}
 use Rattle.law.proofs.Front.{readSheet}
-use Rattle.law.proofs.Place.{first-fault, later-fault, ident-same}
+use Rattle.law.proofs.Place.{first-fault, later-fault}
+use Rattle.law.proofs.PaperKinds.{ident-same}
 use Rattle.law.proofs.Running.{Ends}
 use Rattle.law.proofs.Layouts.{asArea, asParam, asRegion, countsFor, identFrom}
 

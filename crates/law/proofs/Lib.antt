@@ -7,10 +7,12 @@ pub mod Running
 pub mod Readings
 pub mod Complete
 pub mod Marks
+pub mod Cuts
 pub mod Front
 pub mod Sound
 pub mod Checks
 pub mod RecordFaults
+pub mod PaperKinds
 pub mod Place
 pub mod Exact
 pub mod Laid

@@ -1,15 +1,15 @@
 -- The checks before a record's own, and the theorem: what the walk tells of a faulty sheet is what the paper tells.
-use mathlib.Core.Bool.{Bool, true, false, not, _&&_, _||_, true≢false}
+use mathlib.Core.Bool.{Bool, true, false, not, true≢false}
 use mathlib.Core.Logic.{inl, inr, ⊎-elim, _↔_}
 use mathlib.Core.Path.{_≡_, refl, sym, ap, subst, _∙_}
 use mathlib.Core.List.{List, _++_}
-use Prim.Native.Nat.{ℕ, zero, suc, _+_, _*_, _≤_, _<_}
+use Prim.Native.Nat.{ℕ, _+_, _*_, _≤_, _<_}
 use native.Mathlib.Omega.{arith}
-use borrow.Author.Tests.{eqb-true, eqb-false, ltb-true, ltb-false, eq-eqb, ne-eqb, le-ltb, le-leb, lt-leb, not-false}
+use borrow.Author.Tests.{eqb-true, eqb-false, ltb-true, ltb-false, eq-eqb, ne-eqb, not-false}
 use lib.Dec.{eqb, ltb}
 use lib.ListN.{length, getD, drop, length-drop}
-use lib.Seq.{take-at, length-take-le}
-use Rattle.octets.proofs.Cases.{decided, eq-or-ne, lt-or-le}
+use lib.Seq.{length-take-le}
+use Rattle.octets.proofs.Cases.{decided, eq-or-ne}
 use Rattle.octets.proofs.Pick.{pick-yes, pick-no, pick-eq, pick-ne, pick-key}
 use Rattle.regions.specs.Region.{regionFrom, regionAt}
 use Rattle.sheet.specs.Entries.{parameterFrom, parameterAt}
@@ -27,97 +27,16 @@ use Rattle.sheet.specs.declared.walk.Verdict.the-variants.{Valid, Faulty}
 use Rattle.sheet.proofs.Onward.{in-place, last-kind}
 use Rattle.law.specs.Words.{Every}
 use Rattle.law.specs.Sheet.{Region as Area, Parameter as Param, Item as Ident, WellFormed, IsOctet, regionOctets, parameterOctets, itemOctets, toleranceOctets, written, room}
-use Rattle.law.specs.Faults.{RegionFault, ParameterFault, ItemFault, ToleranceFault, nothing, records, InPlace, Kind, recordLength, BodyFault, RecordFault, FirstFault}
+use Rattle.law.specs.Faults.{RegionFault, ParameterFault, ItemFault, ToleranceFault, nothing, records, InPlace, recordLength, BodyFault, RecordFault, FirstFault}
 use Rattle.law.proofs.Checks.{decides, passes, no-more, read-no-fault}
 use Rattle.law.proofs.Complete.{five}
-use Rattle.law.proofs.Written.{le2-back, le4-back}
 use Rattle.law.proofs.RecordFaults.{area-fault, param-fault, ident-fault, tolerance-fault}
-use Rattle.law.proofs.Front.{readSheet, five-back, cut-area, cut-param, cut-ident, cut-tolerance, octet-at, octets-drop, front-good, front-written, sum-listed}
+use Rattle.law.proofs.Front.{readSheet, front-good, front-written}
+use Rattle.law.proofs.Cuts.{five-back, cut-area, cut-param, cut-ident, cut-tolerance, octet-at, octets-drop, sum-listed}
 use Rattle.law.proofs.Sound.{reached, end-later}
 use Rattle.law.proofs.Layouts.{asArea, asParam, identFrom}
 use Rattle.law.proofs.Listed.{length-listed}
-
-size-same : (k : ℕ) → Kind k → sizeOf k ≡ recordLength k
-unfolding sizeOf
-size-same zero h = pick-yes _ _ refl
-size-same (suc zero) h = pick-no _ _ refl ∙ pick-yes _ _ refl
-size-same (suc (suc zero)) h = pick-no _ _ refl ∙ pick-no _ _ refl ∙ pick-yes _ _ refl
-size-same (suc (suc (suc zero))) h = pick-no _ _ refl ∙ pick-no _ _ refl ∙ pick-no _ _ refl ∙ pick-yes _ _ refl
-size-same (suc (suc (suc (suc zero)))) h = pick-no _ _ refl ∙ pick-no _ _ refl ∙ pick-no _ _ refl ∙ pick-no _ _ refl ∙ pick-yes _ _ refl
-size-same (suc (suc (suc (suc (suc n))))) h =
-    let k = suc (suc (suc (suc (suc n)))) in
-    let e : (j : ℕ) → j < 5 → k ≡ j → ⊥ = λ j l q. omega arith in
-    pick-ne _ _ (e 0 (omega arith)) ∙ pick-ne _ _ (e 1 (omega arith)) ∙ pick-ne _ _ (e 2 (omega arith)) ∙ pick-ne _ _ (e 3 (omega arith))
-    ∙ pick-ne _ _ (e 4 (omega arith))
-
--- the code's kinds are the paper's
-kind-there : (k : ℕ) → isKind k ≡ true → Kind k
-unfolding isKind
-kind-there k e =
-    ⊎-elim
-    (λ (l : 4 < k). inr (eqb-true k 6 (sym (ap (λ (b : Bool). b || eqb k 6) (lt-leb k 4 l)) ∙ e)))
-    (λ (l : k ≤ 4). inl l)
-    (lt-or-le 4 k)
-
-kind-back : (k : ℕ) → Kind k → isKind k ≡ true
-unfolding isKind
-kind-back k h =
-    ⊎-elim
-    (λ (l : k ≤ 4). ap (λ (b : Bool). b || eqb k 6) (le-leb k 4 l))
-    (λ (e : k ≡ 6). rw e)
-    h
-
-or-both : (a b : Bool) → a ≡ false → b ≡ false → a || b ≡ false
-or-both true b e f = e
-or-both false b e f = f
-
-kind-free : (kind k n : ℕ) → (kind ≡ k → n ≡ 0) → eqb kind k && ltb 0 n ≡ false
-kind-free kind k n h =
-    ⊎-elim
-    (λ (e : kind ≡ k). ap (λ (b : Bool). b && ltb 0 n) (eq-eqb kind k e) ∙ le-ltb 0 n (let z = h e in omega arith))
-    (λ (e : kind ≡ k → ⊥). ap (λ (b : Bool). b && ltb 0 n) (ne-eqb kind k e))
-    (eq-or-ne kind k)
-
-place-in : (kind : ℕ) (so : Counts) → (kind ≡ 1 → ⊥) → (kind ≡ 2 → so .parameters ≡ 0) → (kind ≡ 2 → so .items ≡ 0) → (kind ≡ 2 → so .tolerances ≡ 0)
-    → (kind ≡ 3 → so .items ≡ 0) → (kind ≡ 3 → so .tolerances ≡ 0) → (kind ≡ 4 → so .tolerances ≡ 0) → (kind ≡ 6 → so .tolerances ≡ 0)
-    → misplacedOf false kind so ≡ false
-unfolding misplacedOf
-place-in kind so a b c d e f g h =
-    or-both _ _
-    (or-both _ _
-    (or-both _ _
-    (or-both _ _
-    (or-both _ _
-    (or-both _ _
-    (or-both _ _ (ne-eqb kind 1 a) (kind-free kind 2 (so .parameters) b))
-    (kind-free kind 2 (so .items) c))
-    (kind-free kind 2 (so .tolerances) d))
-    (kind-free kind 3 (so .items) e))
-    (kind-free kind 3 (so .tolerances) f))
-    (kind-free kind 4 (so .tolerances) g))
-    (kind-free kind 6 (so .tolerances) h)
-
-le4-bound : (a b c d : ℕ) → a < 256 → b < 256 → c < 256 → d < 256 → package.Rattle.octets.specs.Numbers.le4 a b c d < 4294967296
-le4-bound a b c d x y z w = omega arith
-
-pub area-same : (r : Area) (t : List ℕ) → r .start < 4294967296 → r .length < 4294967296 → asArea (regionFrom (regionOctets r ++ t) 0) ≡ r
-unfolding regionFrom
-area-same r t a b = λ i. record { start = le4-back (r .start) a i; length = le4-back (r .length) b i; rights = r .rights }
-
-param-same : (p : Param) (t : List ℕ) → p .number < 65536 → p .address < 4294967296 → asParam (parameterFrom (parameterOctets p ++ t) 0) ≡ p
-unfolding parameterFrom
-param-same p t a b = λ i. record { number = le2-back (p .number) a i; address = le4-back (p .address) b i; size = p .size }
-
-pub ident-same : (i : Ident) (t : List ℕ) → length (i .octets) ≡ 32 → identFrom (itemOctets i ++ t) 0 ≡ i
-ident-same x t e = let o = take-at (x .octets) t 32 e in λ i. record { code = x .code; length = x .length; octets = o i }
-
-region-fits : (l : List ℕ) → ((i : ℕ) → getD l i 0 < 256) → (regionFrom l 0 .start < 4294967296) × (regionFrom l 0 .length < 4294967296)
-unfolding regionFrom
-region-fits l o = (le4-bound _ _ _ _ (o 1) (o 2) (o 3) (o 4), le4-bound _ _ _ _ (o 5) (o 6) (o 7) (o 8))
-
-parameter-fits : (l : List ℕ) → ((i : ℕ) → getD l i 0 < 256) → (parameterFrom l 0 .number < 65536) × (parameterFrom l 0 .address < 4294967296)
-unfolding parameterFrom
-parameter-fits l o = (let a = o 1 in let b = o 2 in omega arith, le4-bound _ _ _ _ (o 3) (o 4) (o 5) (o 6))
+use Rattle.law.proofs.PaperKinds.{size-same, kind-there, kind-back, place-in, area-same, param-same, ident-same, region-fits, parameter-fits}
 
 module _ (s rest : List ℕ) (octs : Every IsOctet rest) (fault : Fault) where
   pub first-fault : length rest ≡ length s → (recordOf s rest none ≡ Bad fault) ↔ RecordFault nothing rest (numberOf fault)

@@ -33,7 +33,8 @@ use Rattle.law.specs.Words.{Every, InARow, Some}
 use Rattle.law.specs.Sheet.{Region as Area, Parameter as Param, Item as Ident, GoodRegion, GoodItem, IsOctet, InRegion, room}
 use Rattle.law.specs.Faults.{RegionFault, ParameterFault, ItemFault, ToleranceFault}
 use Rattle.law.proofs.Checks.{decides, passes, no-more, row-more, row-last, sum-more}
-use Rattle.law.proofs.Front.{readSheet, grants-has, zeros-back, octet-at, octets-drop, octets-take, drop-take}
+use Rattle.law.proofs.Front.{readSheet}
+use Rattle.law.proofs.Cuts.{grants-has, zeros-back, octet-at, octets-drop, octets-take, drop-take}
 use Rattle.law.proofs.Readings.{zeros-zero}
 use Rattle.law.proofs.Layouts.{asArea, asParam, identFrom}
 use Rattle.law.proofs.Listed.{length-listed}

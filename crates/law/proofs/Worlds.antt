@@ -18,7 +18,8 @@ use Rattle.law.specs.Memory.{mapped}
 use Rattle.law.specs.Table.{itemOf as identOf}
 use Rattle.law.proofs.Readings.{regions-listed}
 use Rattle.law.proofs.Exact.{read-back}
-use Rattle.law.proofs.Front.{drop-take, readSheet}
+use Rattle.law.proofs.Front.{readSheet}
+use Rattle.law.proofs.Cuts.{drop-take}
 use Rattle.regions.specs.Region.{listed}
 use Rattle.sheet.specs.Entries.{parameterAt, itemAt, itemFrom, itemsOf, sought}
 use Rattle.sheet.specs.declared.entries.Parameter.{Parameter}
