@@ -63,7 +63,7 @@ uint64_t __wrap_t24_turn(const uint8_t *sheet, size_t sheet_len,
         state[0] ^= 1; /* a refusal that writes */
     if (spoil(53) && answer == T24_DONE)
         *(volatile uint8_t *)(size_t)old = old[0]; /* even the same octet */
-    if (spoil(54) && lent > 0 && old[lent] == 1 && state_len > 0)
+    if (spoil(54) && lent == 9 && old[lent] == 1 && state_len > 0)
         state[0] = 0; /* an octet read behind the old record */
     return answer;
 }
