@@ -18,23 +18,27 @@ use Rattle.machine.specs.declared.words.Outcome.{Outcome}
 use Rattle.machine.proofs.Alike.{identified}
 use Rattle.frame.specs.Body.{dataFrom, echoFrom, echoSize, memoryAfter, replyOf, Fitting}
 use Rattle.frame.specs.Fields.{commandOf}
-use Rattle.frame.specs.Head.{rwdtOf, statusOf, headOf}
+use Rattle.frame.specs.Head.{rwdtOf, missedBit, statusOf, headOf}
 use Rattle.frame.proofs.Bodies.{carriedAt, bodyAt}
 use Rattle.frame.proofs.Named.{named, command-named}
 use Rattle.frame.proofs.Replies.{whole, head-at, body-at}
 
 -- of the status word, what has no bit of the identity
-bits : (b : Bool) (i j alarm latch : ℕ)
-    → (pick b 0 1 + 4 + 64 * (i % 4) + 256 * (alarm % 16) + 4096 * (latch % 16)) % 256 % 64 ≡ (pick b 0 1 + 4 + 64 * (j % 4) + 256 * (alarm % 16) + 4096 * (latch % 16)) % 256 % 64
+bits : (b e : Bool) (i j alarm latch : ℕ) → (pick b 0 1 + pick e 0 2 + 4 + 64 * (i % 4) + 256 * (alarm % 16) + 4096 * (latch % 16)) % 256 % 64
+    ≡ (pick b 0 1 + pick e 0 2 + 4 + 64 * (j % 4) + 256 * (alarm % 16) + 4096 * (latch % 16)) % 256 % 64
 unfolding pick
-bits true i j alarm latch = omega arith
-bits false i j alarm latch = omega arith
+bits true true i j alarm latch = omega arith
+bits true false i j alarm latch = omega arith
+bits false true i j alarm latch = omega arith
+bits false false i j alarm latch = omega arith
 
-high : (b : Bool) (i j alarm latch : ℕ)
-    → (pick b 0 1 + 4 + 64 * (i % 4) + 256 * (alarm % 16) + 4096 * (latch % 16)) / 256 ≡ (pick b 0 1 + 4 + 64 * (j % 4) + 256 * (alarm % 16) + 4096 * (latch % 16)) / 256
+high : (b e : Bool) (i j alarm latch : ℕ) → (pick b 0 1 + pick e 0 2 + 4 + 64 * (i % 4) + 256 * (alarm % 16) + 4096 * (latch % 16)) / 256
+    ≡ (pick b 0 1 + pick e 0 2 + 4 + 64 * (j % 4) + 256 * (alarm % 16) + 4096 * (latch % 16)) / 256
 unfolding pick
-high true i j alarm latch = omega arith
-high false i j alarm latch = omega arith
+high true true i j alarm latch = omega arith
+high true false i j alarm latch = omega arith
+high false true i j alarm latch = omega arith
+high false false i j alarm latch = omega arith
 
 module _ (a₀ a₁ x₂ x₃ y₂ y₃ : ℕ) (t : List ℕ) where
   abbrev c : List ℕ
@@ -71,17 +75,20 @@ module _ (a₀ a₁ x₂ x₃ y₂ y₃ : ℕ) (t : List ℕ) where
     abbrev b : Bool
     b = eqb (o .next .latches .command) 0 && eqb (o .next .latches .communication) 0
 
+    abbrev e : Bool
+    e = eqb (o .next .watch .failures) 0
+
     pub reply-long : length (replyOf sheet m c o) ≡ length (replyOf sheet m d o)
     reply-long = whole sheet m c o long fits ∙ sym (whole sheet m d o long fits)
 
     head-alike : (k : ℕ) → k < 4 → (k ≡ 2 → ⊥)
         → getD (headOf (commandOf c .code) (commandOf c .wdt) (commandOf c .identity) (o .alarm) (o .next)) k 0
         ≡ getD (headOf (commandOf d .code) (commandOf d .wdt) (commandOf d .identity) (o .alarm) (o .next)) k 0
-    unfolding headOf rwdtOf statusOf commandOf
+    unfolding headOf rwdtOf statusOf missedBit commandOf
     head-alike zero l z = refl
     head-alike (suc zero) l z = refl
     head-alike (suc (suc zero)) l z = absurd (z refl)
-    head-alike (suc (suc (suc zero))) l z = high b (x₂ / 64) (y₂ / 64) (o .alarm) (o .next .latches .communication)
+    head-alike (suc (suc (suc zero))) l z = high b e (x₂ / 64) (y₂ / 64) (o .alarm) (o .next .latches .communication)
     head-alike (suc (suc (suc (suc k)))) l z = absurd (let w : ⊥ = omega arith in w)
 
     pub reply-alike : (k : ℕ) → (k ≡ 2 → ⊥) → getD (replyOf sheet m c o) k 0 ≡ getD (replyOf sheet m d o) k 0
@@ -97,8 +104,8 @@ module _ (a₀ a₁ x₂ x₃ y₂ y₃ : ℕ) (t : List ℕ) where
         (lt-or-le k 4)
 
     pub bits-alike : getD (replyOf sheet m c o) 2 0 % 64 ≡ getD (replyOf sheet m d o) 2 0 % 64
-    unfolding headOf statusOf commandOf
+    unfolding headOf statusOf missedBit commandOf
     bits-alike =
         ap (λ (x : ℕ). x % 64) (head-at sheet m c o long fits 2 (omega arith))
-        ∙ bits b (x₂ / 64) (y₂ / 64) (o .alarm) (o .next .latches .communication)
+        ∙ bits b e (x₂ / 64) (y₂ / 64) (o .alarm) (o .next .latches .communication)
         ∙ sym (ap (λ (x : ℕ). x % 64) (head-at sheet m d o long fits 2 (omega arith)))

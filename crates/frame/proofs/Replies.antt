@@ -15,7 +15,7 @@ use Rattle.machine.specs.declared.words.Effect.the-variants.{Quiet}
 use Rattle.machine.specs.declared.words.Outcome.{Outcome}
 use Rattle.frame.specs.Body.{bodyOf, replyOf, Fitting}
 use Rattle.frame.specs.Fields.{commandOf}
-use Rattle.frame.specs.Head.{rwdtOf, statusOf, headOf}
+use Rattle.frame.specs.Head.{rwdtOf, missedBit, statusOf, headOf}
 use Rattle.frame.proofs.Bodies.{bodyAt, quiet-at, body-behind, body-told}
 
 -- head and body, built one after the other, are the reply
@@ -32,15 +32,21 @@ module _ (sheet memory command reply : List ℕ) (o : Outcome) (c : Command) (be
       ∙ ap (λ (x : Command). putAt (replicate (length command) 0) 0 (headOf (x .code) (x .wdt) (x .identity) (o .alarm) (o .next))) read)
 
 -- the status word's two octets
-low : (b : Bool) (identity alarm latch : ℕ) → (pick b 0 1 + 4 + 64 * (identity % 4) + 256 * (alarm % 16) + 4096 * (latch % 16)) % 256 ≡ 4 + pick b 0 1 + 64 * (identity % 4)
+low : (b d : Bool) (identity alarm latch : ℕ) → (pick b 0 1 + pick d 0 2 + 4 + 64 * (identity % 4) + 256 * (alarm % 16) + 4096 * (latch % 16)) % 256
+    ≡ 4 + pick b 0 1 + pick d 0 2 + 64 * (identity % 4)
 unfolding pick
-low true identity alarm latch = omega arith
-low false identity alarm latch = omega arith
+low true true identity alarm latch = omega arith
+low true false identity alarm latch = omega arith
+low false true identity alarm latch = omega arith
+low false false identity alarm latch = omega arith
 
-high : (b : Bool) (identity alarm latch : ℕ) → alarm < 16 → latch < 16 → (pick b 0 1 + 4 + 64 * (identity % 4) + 256 * (alarm % 16) + 4096 * (latch % 16)) / 256 ≡ alarm + 16 * latch
+high : (b d : Bool) (identity alarm latch : ℕ) → alarm < 16 → latch < 16
+    → (pick b 0 1 + pick d 0 2 + 4 + 64 * (identity % 4) + 256 * (alarm % 16) + 4096 * (latch % 16)) / 256 ≡ alarm + 16 * latch
 unfolding pick
-high true identity alarm latch a l = omega arith
-high false identity alarm latch a l = omega arith
+high true true identity alarm latch a l = omega arith
+high true false identity alarm latch a l = omega arith
+high false true identity alarm latch a l = omega arith
+high false false identity alarm latch a l = omega arith
 
 rwdt : (b : Bool) (rsn mn : ℕ) → rsn < 16 → pick b (16 * (rsn % 16) + mn) 0 ≡ pick b (16 * rsn + mn) 0
 unfolding pick
@@ -90,21 +96,23 @@ module _ (sheet m c : List ℕ) (o : Outcome) (long : 8 ≤ length c) (fits : Fi
   unfolding headOf rwdtOf
   rwdt-told small = head-at 1 (omega arith) ∙ rwdt (eqb (o .next .link) 3) (o .next .watch .rsn) (commandOf c .wdt % 16) small
 
-  -- the status: whether a latch is set, with the command's identity; then the alarm and the communication latch
+  -- the status: whether a latch is set and whether a failure was tolerated, with the command's identity; then the alarm and the communication latch
   pub latched-told : getD reply 2 0
-      ≡ 4 + pick (eqb (o .next .latches .command) 0 && eqb (o .next .latches .communication) 0) 0 1 + 64 * (commandOf c .identity % 4)
-  unfolding headOf statusOf
-  latched-told = head-at 2 (omega arith) ∙ low (eqb (o .next .latches .command) 0 && eqb (o .next .latches .communication) 0) (commandOf c .identity) (o .alarm) (o .next .latches .communication)
+      ≡ 4 + pick (eqb (o .next .latches .command) 0 && eqb (o .next .latches .communication) 0) 0 1 + pick (eqb (o .next .watch .failures) 0) 0 2
+      + 64 * (commandOf c .identity % 4)
+  unfolding headOf statusOf missedBit
+  latched-told = head-at 2 (omega arith) ∙ low (eqb (o .next .latches .command) 0 && eqb (o .next .latches .communication) 0) (eqb (o .next .watch .failures) 0) (commandOf c .identity) (o .alarm) (o .next .latches .communication)
 
   pub alarm-told : o .alarm < 16 → o .next .latches .communication < 16 → getD reply 3 0 ≡ o .alarm + 16 * o .next .latches .communication
-  unfolding headOf statusOf
-  alarm-told a l = head-at 3 (omega arith) ∙ high (eqb (o .next .latches .command) 0 && eqb (o .next .latches .communication) 0) (commandOf c .identity) (o .alarm) (o .next .latches .communication) a l
+  unfolding headOf statusOf missedBit
+  alarm-told a l = head-at 3 (omega arith) ∙ high (eqb (o .next .latches .command) 0 && eqb (o .next .latches .communication) 0) (eqb (o .next .watch .failures) 0) (commandOf c .identity) (o .alarm) (o .next .latches .communication) a l
 
   -- the head, octet by octet
   pub head-told : o .next .watch .rsn < 16 → o .alarm < 16 → o .next .latches .communication < 16 → (k : ℕ) → k < 4 → getD reply k 0 ≡ getD (
       commandOf c .code
       ∷ pick (eqb (o .next .link) 3) (16 * o .next .watch .rsn + commandOf c .wdt % 16) 0
-      ∷ (4 + pick (eqb (o .next .latches .command) 0 && eqb (o .next .latches .communication) 0) 0 1 + 64 * (commandOf c .identity % 4))
+      ∷ (4 + pick (eqb (o .next .latches .command) 0 && eqb (o .next .latches .communication) 0) 0 1 + pick (eqb (o .next .watch .failures) 0) 0 2
+      + 64 * (commandOf c .identity % 4))
       ∷ (o .alarm + 16 * o .next .latches .communication)
       ∷ []) k 0
   head-told rsn alarm latch zero l = code-again

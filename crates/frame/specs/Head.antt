@@ -10,12 +10,16 @@ use Rattle.link.specs.declared.state.LinkState.{LinkState}
 unfoldable pub rwdtOf : ℕ → LinkState → ℕ
 rwdtOf wdt next = pick (eqb (next .link) 3) (16 * (next .watch .rsn % 16) + wdt % 16) 0
 
+-- request 9: in a failure that is tolerated "status bit 1 set"; the count is 0 behind every other exchange
+unfoldable pub missedBit : LinkState → ℕ
+missedBit next = pick (eqb (next .watch .failures) 0) 0 2
+
 -- "Status bit 0 is set if a latch is nonzero after the exchange; bit 2 is always set; bits 8 to 11 are this command's alarm ..; bits 12 to 15 the
 -- communication latch after the exchange; the rest 0"; request 1: the command's identity comes back in bits 6 and 7
 unfoldable pub statusOf : ℕ → ℕ → LinkState → ℕ
 statusOf identity alarm next =
     pick (eqb (next .latches .command) 0 && eqb (next .latches .communication) 0) 0 1
-    + 4 + 64 * (identity % 4) + 256 * (alarm % 16) + 4096 * (next .latches .communication % 16)
+    + missedBit next + 4 + 64 * (identity % 4) + 256 * (alarm % 16) + 4096 * (next .latches .communication % 16)
 
 -- the four octets; the status is a number of two octets, low octet first
 unfoldable pub headOf : ℕ → ℕ → ℕ → ℕ → LinkState → List ℕ

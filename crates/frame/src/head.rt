@@ -4,7 +4,7 @@ ghost use mathlib.Core.Path.{_≡_};
 ghost use Prim.Native.Nat.{_≤_};
 ghost use lib.ListN.{length, replicate};
 ghost use Rattle.octets.specs.Parts.{putAt};
-ghost use Rattle.frame.specs.Head.{rwdtOf, statusOf, headOf};
+ghost use Rattle.frame.specs.Head.{rwdtOf, missedBit, statusOf, headOf};
 
 fn rwdt(wdt: u8, next: LinkState) -> u8
     ensures { λ r. ⌜ r ≡ rwdtOf wdt next ⌝ }
@@ -15,15 +15,27 @@ fn rwdt(wdt: u8, next: LinkState) -> u8
     0
 }
 
+// Status bit 1: a failure of the watchdog was tolerated. Every other exchange leaves the count 0.
+fn missed_bit(next: LinkState) -> u16
+    ensures { λ r. ⌜ r ≡ missedBit next ⌝ }
+{
+    let failures = next.watch.failures;
+    if failures == 0 {
+        return 0;
+    }
+    2
+}
+
 fn status(identity: u8, alarm: u8, next: LinkState) -> u16
     ensures { λ r. ⌜ r ≡ statusOf identity alarm next ⌝ }
 {
     let echo = 64 * ((identity % 4) as u16);
     let high = 256 * ((alarm % 16) as u16) + 4096 * ((next.latches.communication % 16) as u16);
+    let missed = missed_bit(next);
     if (next.latches.command == 0) & (next.latches.communication == 0) {
-        return 0 + 4 + echo + high;
+        return 0 + missed + 4 + echo + high;
     }
-    1 + 4 + echo + high
+    1 + missed + 4 + echo + high
 }
 
 // The head over a reply of zeros: no old octet stays.

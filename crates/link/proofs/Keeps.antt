@@ -1,11 +1,11 @@
 -- Every step keeps validity, under the conditions at which the machine takes it.
 use mathlib.Core.Bool.{true}
 use mathlib.Core.Path.{_≡_, refl}
-use Prim.Native.Nat.{ℕ, _≤_}
+use Prim.Native.Nat.{ℕ, _≤_, _<_}
 use native.Mathlib.Omega.{arith}
 use lib.Dec.{eqb}
 use Rattle.octets.proofs.Pick.{pick-both}
-use Rattle.link.specs.Steps.{fresh, enabled, connected, synced, dropped, lost, latched, cleared, counted}
+use Rattle.link.specs.Steps.{fresh, enabled, connected, synced, dropped, lost, latched, cleared, counted, tolerated}
 use Rattle.link.specs.Valid.{isCommandAlarm, isCommunicationAlarm}
 use Rattle.link.specs.declared.state.LinkState.{LinkState}
 use Rattle.link.proofs.Facts.{Facts}
@@ -22,9 +22,10 @@ twelve-fault : isCommunicationAlarm 12 ≡ true
 unfolding isCommunicationAlarm
 twelve-fault = refl
 
-pub fresh-valid : (l : ℕ) → Facts l (fresh l)
-fresh-valid l = record {
+pub fresh-valid : (l tolerance : ℕ) → Facts l tolerance (fresh l)
+fresh-valid l tolerance = record {
   length = refl;
+  few = omega arith;
   link = omega arith;
   dual = omega arith;
   known = omega arith;
@@ -36,15 +37,16 @@ fresh-valid l = record {
   untimed = λ n. refl;
   single = λ n. refl;
   doubled = λ n. absurd (n refl);
-  unwatched = λ n. (refl, refl, refl);
-  unknown = λ n. (refl, refl);
+  unwatched = λ n. (refl, refl, refl, refl);
+  unknown = λ n. (refl, refl, refl);
   silent = λ n. (refl, refl);
 }
 
-module _ (l : ℕ) (st : LinkState) (v : Facts l st) where
-  pub enabled-valid : st .link ≡ 0 → Facts l (enabled st)
+module _ (l tolerance : ℕ) (st : LinkState) (v : Facts l tolerance st) where
+  pub enabled-valid : st .link ≡ 0 → Facts l tolerance (enabled st)
   enabled-valid e = record {
     length = v .length;
+    few = v .few;
     link = omega arith;
     dual = v .dual;
     known = v .known;
@@ -63,9 +65,10 @@ module _ (l : ℕ) (st : LinkState) (v : Facts l st) where
 
   -- into AsyncConnected with single transfer, or into SyncConnected
   pub connected-valid : (link dual time : ℕ) → 2 ≤ link → link ≤ 3 → dual ≤ 1 → 1 ≤ time → (dual ≡ 1 → (link ≡ 3) × (2 ≤ time))
-      → Facts l (connected st link dual time)
+      → Facts l tolerance (connected st link dual time)
   connected-valid link dual time lo hi d t both = record {
     length = v .length;
+    few = omega arith;
     link = hi;
     dual = d;
     known = omega arith;
@@ -77,17 +80,18 @@ module _ (l : ℕ) (st : LinkState) (v : Facts l st) where
     untimed = λ n. omega arith;
     single = λ n. by-cases (λ e. absurd (n (both e .0)));
     doubled = λ n. both (omega arith) .1;
-    unwatched = λ n. (refl, refl, refl);
-    unknown = λ n. (refl, refl);
+    unwatched = λ n. (refl, refl, refl, refl);
+    unknown = λ n. (refl, refl, refl);
     silent = λ n. absurd (let k : ⊥ = omega arith in k);
   }
     where
       by-cases : (dual ≡ 1 → ⊥) → dual ≡ 0
       by-cases f = omega arith
 
-  pub synced-valid : 2 ≤ st .link → Facts l (synced st)
+  pub synced-valid : 2 ≤ st .link → Facts l tolerance (synced st)
   synced-valid h = record {
     length = v .length;
+    few = omega arith;
     link = omega arith;
     dual = omega arith;
     known = omega arith;
@@ -99,14 +103,15 @@ module _ (l : ℕ) (st : LinkState) (v : Facts l st) where
     untimed = λ n. absurd (let k : ⊥ = omega arith in k);
     single = λ n. refl;
     doubled = λ n. absurd (n refl);
-    unwatched = λ n. (refl, refl, refl);
-    unknown = λ n. (refl, refl);
+    unwatched = λ n. (refl, refl, refl, refl);
+    unknown = λ n. (refl, refl, refl);
     silent = λ n. absurd (let k : ⊥ = omega arith in k);
   }
 
-  pub dropped-valid : Facts l (dropped st)
+  pub dropped-valid : Facts l tolerance (dropped st)
   dropped-valid = record {
     length = v .length;
+    few = omega arith;
     link = omega arith;
     dual = omega arith;
     known = omega arith;
@@ -118,14 +123,15 @@ module _ (l : ℕ) (st : LinkState) (v : Facts l st) where
     untimed = λ n. refl;
     single = λ n. refl;
     doubled = λ n. absurd (n refl);
-    unwatched = λ n. (refl, refl, refl);
-    unknown = λ n. (refl, refl);
+    unwatched = λ n. (refl, refl, refl, refl);
+    unknown = λ n. (refl, refl, refl);
     silent = λ n. absurd (let k : ⊥ = omega arith in k);
   }
 
-  pub lost-valid : 2 ≤ st .link → Facts l (lost st)
+  pub lost-valid : 2 ≤ st .link → Facts l tolerance (lost st)
   lost-valid h = record {
     length = v .length;
+    few = omega arith;
     link = omega arith;
     dual = omega arith;
     known = omega arith;
@@ -137,14 +143,15 @@ module _ (l : ℕ) (st : LinkState) (v : Facts l st) where
     untimed = λ n. absurd (let k : ⊥ = omega arith in k);
     single = λ n. refl;
     doubled = λ n. absurd (n refl);
-    unwatched = λ n. (refl, refl, refl);
-    unknown = λ n. (refl, refl);
+    unwatched = λ n. (refl, refl, refl, refl);
+    unknown = λ n. (refl, refl, refl);
     silent = λ n. absurd (let k : ⊥ = omega arith in k);
   }
 
-  pub latched-valid : (alarm : ℕ) → isCommandAlarm alarm ≡ true → 1 ≤ st .link → Facts l (latched st alarm)
+  pub latched-valid : (alarm : ℕ) → isCommandAlarm alarm ≡ true → 1 ≤ st .link → Facts l tolerance (latched st alarm)
   latched-valid alarm a h = record {
     length = v .length;
+    few = v .few;
     link = v .link;
     dual = v .dual;
     known = v .known;
@@ -161,9 +168,10 @@ module _ (l : ℕ) (st : LinkState) (v : Facts l st) where
     silent = λ n. absurd (let k : ⊥ = omega arith in k);
   }
 
-  pub cleared-valid : Facts l (cleared st)
+  pub cleared-valid : Facts l tolerance (cleared st)
   cleared-valid = record {
     length = v .length;
+    few = v .few;
     link = v .link;
     dual = v .dual;
     known = v .known;
@@ -180,9 +188,30 @@ module _ (l : ℕ) (st : LinkState) (v : Facts l st) where
     silent = λ n. (refl, refl);
   }
 
-  pub counted-valid : (mn : ℕ) → mn ≤ 15 → st .link ≡ 3 → Facts l (counted st mn)
+  pub counted-valid : (mn : ℕ) → mn ≤ 15 → st .link ≡ 3 → Facts l tolerance (counted st mn)
   counted-valid mn m h = record {
     length = v .length;
+    few = omega arith;
+    link = v .link;
+    dual = v .dual;
+    known = omega arith;
+    last = m;
+    rsn = omega arith;
+    command = v .command;
+    communication = v .communication;
+    timed = v .timed;
+    untimed = v .untimed;
+    single = v .single;
+    doubled = v .doubled;
+    unwatched = λ n. absurd (n h);
+    unknown = λ n. absurd (let k : ⊥ = omega arith in k);
+    silent = v .silent;
+  }
+
+  pub tolerated-valid : (mn : ℕ) → mn ≤ 15 → st .link ≡ 3 → st .watch .failures < tolerance → tolerance ≤ 255 → Facts l tolerance (tolerated st mn)
+  tolerated-valid mn m h f t = record {
+    length = v .length;
+    few = omega arith;
     link = v .link;
     dual = v .dual;
     known = omega arith;

@@ -2,3 +2,4 @@
 pub mod Steps
 pub mod Valid
 pub mod Stored
+pub mod Old

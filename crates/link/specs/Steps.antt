@@ -9,7 +9,7 @@ use Rattle.link.specs.declared.state.LinkState.{LinkState}
 
 -- "On entry to link 3 MN is not known and RSN is 0; on leaving it those fields .. become 0"
 abbrev pub idle : Watch
-idle = record { known = 0; last = 0; rsn = 0 }
+idle = record { known = 0; last = 0; rsn = 0; failures = 0 }
 
 -- where MN is known: "MN must be last MN plus 1, modulo 16"; request 5: and "SN equals the state's RSN". MN is the low half of WDT, SN the high half
 unfoldable pub followsOf : Watch → ℕ → Bool
@@ -93,13 +93,24 @@ cleared st = record {
   latches = record { command = 0; communication = 0 };
 }
 
--- "stores MN as known and adds 1 to RSN modulo 16"
+-- "stores MN as known and adds 1 to RSN modulo 16"; request 9: "An exchange that passes check 1 sets the count to 0"
 abbrev pub counted : LinkState → ℕ → LinkState
 counted st mn = record {
   link = st .link;
   l = st .l;
   dual = st .dual;
   «com_time» = st .«com_time»;
-  watch = record { known = 1; last = mn; rsn = (st .watch .rsn + 1) % 16 };
+  watch = record { known = 1; last = mn; rsn = (st .watch .rsn + 1) % 16; failures = 0 };
+  latches = st .latches;
+}
+
+-- request 9, a failure that is tolerated: "link and latches stay, MN is taken as last MN and RSN advances"; the count, an octet, goes up by one
+abbrev pub tolerated : LinkState → ℕ → LinkState
+tolerated st mn = record {
+  link = st .link;
+  l = st .l;
+  dual = st .dual;
+  «com_time» = st .«com_time»;
+  watch = record { known = 1; last = mn; rsn = (st .watch .rsn + 1) % 16; failures = (st .watch .failures + 1) % 256 };
   latches = st .latches;
 }

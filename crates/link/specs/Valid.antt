@@ -24,17 +24,18 @@ inRange st =
     && isCommunicationAlarm (st .latches .communication)
 
 -- "com_time is nonzero exactly in links 2 and 3, dual is 0 outside link 3 and dual 1 has com_time at least 2, the MN and RSN fields are zero
--- outside link 3, last MN and RSN are zero when MN is not known, and both alarms are zero in link 0"
+-- outside link 3, last MN and RSN are zero when MN is not known, and both alarms are zero in link 0"; request 9: the count is "0 outside link 3 and while
+-- MN is not known"
 unfoldable pub agrees : LinkState → Bool
 agrees st =
     (ltb (st .link) 2 || leb 1 (st .«com_time»))
     && (leb 2 (st .link) || eqb (st .«com_time») 0)
     && (eqb (st .link) 3 || eqb (st .dual) 0)
     && (eqb (st .dual) 0 || leb 2 (st .«com_time»))
-    && (eqb (st .link) 3 || (eqb (st .watch .known) 0 && eqb (st .watch .last) 0 && eqb (st .watch .rsn) 0))
-    && (leb 1 (st .watch .known) || (eqb (st .watch .last) 0 && eqb (st .watch .rsn) 0))
+    && (eqb (st .link) 3 || (eqb (st .watch .known) 0 && eqb (st .watch .last) 0 && eqb (st .watch .rsn) 0 && eqb (st .watch .failures) 0))
+    && (leb 1 (st .watch .known) || (eqb (st .watch .last) 0 && eqb (st .watch .rsn) 0 && eqb (st .watch .failures) 0))
     && (leb 1 (st .link) || (eqb (st .latches .command) 0 && eqb (st .latches .communication) 0))
 
--- "Valid only if L is the sheet's", the fields are in range, and they agree
-unfoldable pub validOf : LinkState → ℕ → Bool
-validOf st l = eqb (st .l) l && inRange st && agrees st
+-- "Valid only if L is the sheet's", the count is at most what the sheet tolerates, the fields are in range, and they agree
+unfoldable pub validOf : LinkState → ℕ → ℕ → Bool
+validOf st l tolerance = eqb (st .l) l && leb (st .watch .failures) tolerance && inRange st && agrees st

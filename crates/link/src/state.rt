@@ -1,6 +1,6 @@
 // The link state and its steps. Each step takes the state by value and hands it back.
 ghost use mathlib.Core.Path.{_≡_};
-ghost use Rattle.link.specs.Steps.{idle, followsOf, fresh, enabled, connected, synced, dropped, lost, latched, cleared, counted};
+ghost use Rattle.link.specs.Steps.{idle, followsOf, fresh, enabled, connected, synced, dropped, lost, latched, cleared, counted, tolerated};
 
 pub const DISABLED: u8 = 0;
 
@@ -10,11 +10,12 @@ pub const ASYNC_CONNECTED: u8 = 2;
 
 pub const SYNC_CONNECTED: u8 = 3;
 
-// The watchdog's fields: whether MN is known, the last MN, and RSN.
+// The watchdog's fields: whether MN is known, the last MN, RSN, and how many exchanges in a row failed it.
 pub struct Watch {
     pub known: u8,
     pub last: u8,
     pub rsn: u8,
+    pub failures: u8,
 }
 
 // The two latched alarms.
@@ -41,6 +42,7 @@ impl Watch {
             known: 0,
             last: 0,
             rsn: 0,
+            failures: 0,
         }
     }
 
@@ -67,6 +69,7 @@ impl LinkState {
                 known: 0,
                 last: 0,
                 rsn: 0,
+                failures: 0,
             },
             latches: Latches {
                 command: 0,
@@ -148,7 +151,7 @@ impl LinkState {
         self
     }
 
-    // An exchange that begins and ends in SyncConnected: MN is known, and RSN advances modulo 16.
+    // An exchange that begins and ends in SyncConnected: MN is known, RSN advances modulo 16, and no failure is counted any more.
     pub fn counted(mut self, mn: u8) -> LinkState
         ensures { λ r. ⌜ r ≡ counted self mn ⌝ }
     {
@@ -157,6 +160,23 @@ impl LinkState {
             known: 1,
             last: mn,
             rsn: ((rsn as u16 + 1) % 16) as u8,
+            failures: 0,
+        };
+        self.watch = w;
+        self
+    }
+
+    // A failed watchdog that the sheet tolerates: counts go on as in step, and one failure more is counted.
+    pub fn tolerated(mut self, mn: u8) -> LinkState
+        ensures { λ r. ⌜ r ≡ tolerated self mn ⌝ }
+    {
+        let rsn = self.watch.rsn;
+        let failures = self.watch.failures;
+        let w = Watch {
+            known: 1,
+            last: mn,
+            rsn: ((rsn as u16 + 1) % 16) as u8,
+            failures: ((failures as u16 + 1) % 256) as u8,
         };
         self.watch = w;
         self

@@ -1,11 +1,11 @@
-// The state record: ten octets, read whole and written whole.
+// The state record: eleven octets, read whole and written whole.
 use crate::state::Latches;
 use crate::state::LinkState;
 use crate::state::Watch;
 ghost use mathlib.Core.Path.{_≡_};
 ghost use Rattle.link.specs.Stored.{fieldsOf, stateOf, stored};
 
-pub const STATE_LENGTH: usize = 10;
+pub const STATE_LENGTH: usize = 11;
 
 // A valid state, or none: the record has another length or kind, or its fields are not valid.
 pub enum Stored {
@@ -14,7 +14,7 @@ pub enum Stored {
 }
 
 // The fields of a record, whatever they hold.
-fn fields(state: &[u8]) -> LinkState
+pub fn fields(state: &[u8]) -> LinkState
     ensures { λ r. ⌜ r ≡ fieldsOf (now (state .entry)) ⌝ }
 {
     LinkState {
@@ -26,6 +26,7 @@ fn fields(state: &[u8]) -> LinkState
             known: octets::octet(state, 5),
             last: octets::octet(state, 6),
             rsn: octets::octet(state, 7),
+            failures: octets::octet(state, 10),
         },
         latches: Latches {
             command: octets::octet(state, 8),
@@ -34,31 +35,31 @@ fn fields(state: &[u8]) -> LinkState
     }
 }
 
-// The state that a record holds beside a sheet with this L.
-pub fn read(state: &[u8], l: u8) -> Stored
-    ensures { λ r. ⌜ r ≡ stateOf (now (state .entry)) l ⌝ }
+// The state that a record holds beside a sheet with this L that tolerates so many failures in a row.
+pub fn read(state: &[u8], l: u8, tolerance: u8) -> Stored
+    ensures { λ r. ⌜ r ≡ stateOf (now (state .entry)) l tolerance ⌝ }
 {
     if state.len() != STATE_LENGTH {
         return Stored::Invalid;
     }
-    if octets::octet(state, 0) != 17 {
+    if octets::octet(state, 0) != 18 {
         return Stored::Invalid;
     }
     let st = fields(state);
-    if !crate::validity::valid(st, l) {
+    if !crate::validity::valid(st, l, tolerance) {
         return Stored::Invalid;
     }
     Stored::State(st)
 }
 
-// The record of a state, written over ten lent octets; octets of any other length stay.
+// The record of a state, written over eleven lent octets; octets of any other length stay.
 pub fn write(state: &mut [u8], st: LinkState)
     ensures { λ _. ⌜ now (state .exit) ≡ stored (now (state .entry)) st ⌝ }
 {
     if state.len() != STATE_LENGTH {
         return;
     }
-    state[0] = 17;
+    state[0] = 18;
     state[1] = st.link;
     state[2] = st.l;
     state[3] = st.dual;
@@ -68,4 +69,5 @@ pub fn write(state: &mut [u8], st: LinkState)
     state[7] = st.watch.rsn;
     state[8] = st.latches.command;
     state[9] = st.latches.communication;
+    state[10] = st.watch.failures;
 }

@@ -36,14 +36,19 @@ pub fn agree(st: LinkState) -> bool
         & ((2 <= st.link) | (st.com_time == 0))
         & ((st.link == 3) | (st.dual == 0))
         & ((st.dual == 0) | (2 <= st.com_time))
-        & ((st.link == 3) | ((st.watch.known == 0) & (st.watch.last == 0) & (st.watch.rsn == 0)))
-        & ((1 <= st.watch.known) | ((st.watch.last == 0) & (st.watch.rsn == 0)))
+        & ((st.link == 3)
+            | ((st.watch.known == 0)
+                & (st.watch.last == 0)
+                & (st.watch.rsn == 0)
+                & (st.watch.failures == 0)))
+        & ((1 <= st.watch.known)
+            | ((st.watch.last == 0) & (st.watch.rsn == 0) & (st.watch.failures == 0)))
         & ((1 <= st.link) | ((st.latches.command == 0) & (st.latches.communication == 0)))
 }
 
-// A state that is valid beside a sheet with this L.
-pub fn valid(st: LinkState, l: u8) -> bool
-    ensures { λ r. ⌜ r ≡ validOf st l ⌝ }
+// A state that is valid beside a sheet with this L that tolerates so many failures in a row.
+pub fn valid(st: LinkState, l: u8, tolerance: u8) -> bool
+    ensures { λ r. ⌜ r ≡ validOf st l tolerance ⌝ }
 {
-    (st.l == l) & in_range(st) & agree(st)
+    (st.l == l) & (st.watch.failures <= tolerance) & in_range(st) & agree(st)
 }

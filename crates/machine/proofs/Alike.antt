@@ -5,7 +5,7 @@ use mathlib.Core.List.{List}
 use Prim.Native.Nat.{ℕ}
 use lib.Dec.{eqb}
 use Rattle.octets.specs.Pick.{pick}
-use Rattle.link.specs.Steps.{followsOf, lost}
+use Rattle.link.specs.Steps.{followsOf}
 use Rattle.link.specs.declared.state.LinkState.{LinkState}
 use Rattle.regions.specs.declared.Region.{Region}
 use Rattle.sheet.specs.declared.entries.SoughtItem.{SoughtItem}
@@ -13,7 +13,7 @@ use Rattle.sheet.specs.declared.entries.SoughtParameter.{SoughtParameter}
 use Rattle.sheet.specs.declared.walk.Layout.{Layout}
 use Rattle.machine.specs.Connecting.{connectOf}
 use Rattle.machine.specs.Judging.{parameterData, parameterOf, itemData, itemOf, alarmsOf, clearOf, memoryOf, dataOf, judgeOf}
-use Rattle.machine.specs.Outcomes.{comesTo, finished, outcomeOf}
+use Rattle.machine.specs.Outcomes.{comesTo, mnOf, finished, missedOf, outcomeOf}
 use Rattle.machine.specs.declared.words.Command.{Command}
 use Rattle.machine.specs.declared.words.Effect.the-variants.{Quiet}
 use Rattle.machine.specs.declared.words.Field.the-variants.{Whole}
@@ -74,5 +74,5 @@ module _ (s : List ℕ) (lay : Layout) (st : LinkState) (c : Command) (i : ℕ) 
   pub outcome-alike : outcomeOf s lay st c ≡ outcomeOf s lay st (identified c i)
   unfolding outcomeOf
   outcome-alike =
-      ap (pick (eqb (st .link) 3 && not (followsOf (st .watch) (c .wdt))) (comesTo 0 Whole Quiet (lost st)))
+      ap (pick (eqb (st .link) 3 && not (followsOf (st .watch) (c .wdt))) (comesTo 0 Whole Quiet (missedOf (lay .tolerance) st (mnOf c))))
       (finished-alike (judgeOf s lay st c) ∙ ap (finished st (identified c i)) judge-alike)

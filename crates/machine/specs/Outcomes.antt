@@ -2,9 +2,9 @@
 use Prim.Native.Nat.{ℕ, _%_}
 use mathlib.Core.Bool.{not, _&&_}
 use mathlib.Core.List.{List}
-use lib.Dec.{eqb}
+use lib.Dec.{eqb, ltb}
 use Rattle.octets.specs.Pick.{pick}
-use Rattle.link.specs.Steps.{followsOf, lost, latched, counted}
+use Rattle.link.specs.Steps.{followsOf, lost, latched, counted, tolerated}
 use Rattle.link.specs.declared.state.LinkState.{LinkState}
 use Rattle.sheet.specs.declared.walk.Layout.{Layout}
 use Rattle.machine.specs.Judging.{judgeOf}
@@ -33,9 +33,13 @@ unfoldable pub finished : LinkState → Command → Judgement → Outcome
 finished st c (Refused alarm field) = comesTo alarm field Quiet (counting st (latched st alarm) (mnOf c))
 finished st c (Accepted effect next) = comesTo 0 Whole effect (counting st next (mnOf c))
 
--- "1. Link 3 with MN known: MN must be last MN plus 1, modulo 16. If not, nothing is executed, the body is zero, the communication latch becomes
--- 12, the command alarm is 0, the link becomes 2."
+-- the state behind a failed check 1: "the communication latch becomes 12, .. the link becomes 2"; request 9: the sheet "allows that many failures in a
+-- row", and within it "link and latches stay"
+unfoldable pub missedOf : ℕ → LinkState → ℕ → LinkState
+missedOf tolerance st mn = pick (ltb (st .watch .failures) tolerance) (tolerated st mn) (lost st)
+
+-- "1. Link 3 with MN known: MN must be last MN plus 1, modulo 16. If not, nothing is executed, the body is zero, .. the command alarm is 0"
 unfoldable pub outcomeOf : List ℕ → Layout → LinkState → Command → Outcome
 outcomeOf s lay st c =
-    pick (eqb (st .link) 3 && not (followsOf (st .watch) (c .wdt))) (comesTo 0 Whole Quiet (lost st))
+    pick (eqb (st .link) 3 && not (followsOf (st .watch) (c .wdt))) (comesTo 0 Whole Quiet (missedOf (lay .tolerance) st (mnOf c)))
     (finished st c (judgeOf s lay st c))

@@ -8,7 +8,7 @@ use link::state::LinkState;
 use sheet::walk::Layout;
 ghost use mathlib.Core.Path.{_≡_};
 ghost use Rattle.sheet.specs.Sound.{Counted, countsOf};
-ghost use Rattle.machine.specs.Outcomes.{counting, finished, outcomeOf};
+ghost use Rattle.machine.specs.Outcomes.{counting, finished, missedOf, outcomeOf};
 
 // An exchange that begins and ends in SyncConnected counts.
 fn count(before: LinkState, st: LinkState, mn: u8) -> LinkState
@@ -41,6 +41,17 @@ fn finish(st: LinkState, c: Command, judgement: Judgement) -> Outcome
     }
 }
 
+// The state behind a failed check 1: one failure more is counted where the sheet tolerates it, else the link is left.
+fn missed(tolerance: u8, st: LinkState, mn: u8) -> LinkState
+    ensures { λ r. ⌜ r ≡ missedOf tolerance st mn ⌝ }
+{
+    let failures = st.watch.failures;
+    if failures < tolerance {
+        return st.tolerated(mn);
+    }
+    st.lost()
+}
+
 // What an exchange comes to.
 pub fn outcome(sheet: &[u8], layout: Layout, st: LinkState, c: Command) -> Outcome
     requires { ⌜ Counted (now sheet) (countsOf layout) ⌝ }
@@ -52,7 +63,7 @@ pub fn outcome(sheet: &[u8], layout: Layout, st: LinkState, c: Command) -> Outco
             alarm: 0,
             field: Field::Whole,
             effect: Effect::Quiet,
-            next: st.lost(),
+            next: missed(layout.tolerance, st, c.wdt % 16),
         };
     }
     finish(st, c, crate::judging::judge(sheet, layout, st, c))

@@ -53,11 +53,11 @@ module _ (sheet state memory command reply : List ℕ) (lay : Layout) (v : verdi
       (λ i. stepped (sym d i) (sym (ap (λ (l : Left). l .state) x) i) (sym (ap (λ (l : Left). l .memory) x) i))
       ∙ sym (pick-yes _ _ (eq-eqb _ (lay .l) d))
 
-  pub is-invalid : stateOf state (lay .l) ≡ Invalid → exchangeOf sheet state memory command reply ≡ left (told 1 0) state memory reply
+  pub is-invalid : stateOf state (lay .l) (lay .tolerance) ≡ Invalid → exchangeOf sheet state memory command reply ≡ left (told 1 0) state memory reply
   unfolding exchangeOf
   is-invalid h = on-valid _ _ _ _ v ∙ on-invalid _ _ _ h
 
-  module _ (st : LinkState) (h : stateOf state (lay .l) ≡ State st) (m : length memory ≡ lay .memory) (c : length command ≡ lay .l) (r : length reply ≡ lay .l) where
+  module _ (st : LinkState) (h : stateOf state (lay .l) (lay .tolerance) ≡ State st) (m : length memory ≡ lay .memory) (c : length command ≡ lay .l) (r : length reply ≡ lay .l) where
     refusal-is : (n : ℕ) → refusalOf lay st (lay .memory) (lay .l) (lay .l) ≡ n → refusalOf lay st (length memory) (length command) (length reply) ≡ n
     refusal-is n e = (λ i. refusalOf lay st (m i) (c i) (r i)) ∙ e
 

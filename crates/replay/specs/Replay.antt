@@ -46,7 +46,7 @@ unfoldable pub replayOf : List ℕ → List ℕ → List ℕ → List ℕ → Re
 replayOf sheet state memory trace =
     onSheet (verdictOf sheet) (λ refusal. replayed refusal state memory)
     (λ lay.
-    onState (stateOf state (lay .l)) (replayed (told 1 0) state memory)
+    onState (stateOf state (lay .l) (lay .tolerance)) (replayed (told 1 0) state memory)
     (λ st.
     pick (not (eqb (length memory) (lay .memory))) (replayed (told 2 0) state memory)
     (pick (eqb (st .link) 0) (replayed (told 5 0) state memory)

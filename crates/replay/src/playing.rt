@@ -69,7 +69,7 @@ pub fn replay(sheet: &[u8], state: &mut [u8], memory: &mut [u8], trace: &[u8]) -
     let Verdict::Valid(layout) = verdict else {
         return slave::answers::sheet_answer(verdict);
     };
-    let held = link::stored::read(state, layout.l);
+    let held = link::stored::read(state, layout.l, layout.tolerance);
     let Stored::State(st) = held else {
         return slave::answers::plain(slave::answers::BAD_STATE);
     };

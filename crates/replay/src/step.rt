@@ -22,7 +22,7 @@ pub fn one(
     requires { ⌜ (verdictOf (now sheet) ≡ Valid layout) × (length (now memory) ≡ layout .memory) × (length (now room) ≡ layout .l) × (length (now command) ≡ layout .l) × (length (now theirs) ≡ layout .l) ⌝ }
     ensures { λ d. ⌜ performed (stepped d (now (state .exit)) (now (memory .exit))) (now (room .exit)) ≡ recordLeaves (now (sheet .entry)) (layout .l) (now (state .entry)) (now (memory .entry)) (now (room .entry)) (now (command .entry)) (now (theirs .entry)) ⌝ }
 {
-    let held = link::stored::read(state, layout.l);
+    let held = link::stored::read(state, layout.l, layout.tolerance);
     let Stored::State(st) = held else {
         return layout.l;
     };

@@ -6,7 +6,7 @@ use native.Mathlib.Omega.{arith}
 use borrow.Author.Tests.{ltb-false, leb-false, eqb-false, not-false}
 use Rattle.octets.proofs.Pick.{passed}
 use Rattle.regions.specs.declared.Region.{Region}
-use Rattle.sheet.specs.Judging.{judgedRegion, judgedParameter, judgedItem}
+use Rattle.sheet.specs.Judging.{judgedRegion, judgedParameter, judgedItem, judgedTolerance}
 use Rattle.sheet.specs.declared.entries.Parameter.{Parameter}
 use Rattle.sheet.specs.declared.entries.Item.{Item}
 use Rattle.sheet.specs.declared.records.Counts.{Counts}
@@ -25,7 +25,7 @@ same-counts e = cc
 
 pub record RegionRead (r : Region) (end : ℕ) (so : Counts) (n : ℕ) (next : Counts) : Type 0 where
   pub size : 10 ≡ n
-  pub counts : record { regions = so .regions + 1; parameters = so .parameters; items = so .items; memory = so .memory + r .length } ≡ next
+  pub counts : record { regions = so .regions + 1; parameters = so .parameters; items = so .items; tolerances = so .tolerances; memory = so .memory + r .length } ≡ next
   pub some : 1 ≤ r .length
   pub ends : r .start + r .length ≤ 4294967296
   pub bits : r .rights ≤ 7
@@ -56,7 +56,7 @@ region-read r end so n next e =
 
 pub record ParameterRead (p : Parameter) (least : ℕ) (mapped : Bool) (so : Counts) (n : ℕ) (next : Counts) : Type 0 where
   pub size : 8 ≡ n
-  pub counts : record { regions = so .regions; parameters = so .parameters + 1; items = so .items; memory = so .memory } ≡ next
+  pub counts : record { regions = so .regions; parameters = so .parameters + 1; items = so .items; tolerances = so .tolerances; memory = so .memory } ≡ next
   pub some : 1 ≤ p .size
   pub most : p .size ≤ 56
   pub few : so .parameters < 64
@@ -85,7 +85,7 @@ parameter-read p least mapped so n next e =
 
 pub record ItemRead (i : Item) (tail : Bool) (least : ℕ) (so : Counts) (n : ℕ) (next : Counts) : Type 0 where
   pub size : 35 ≡ n
-  pub counts : record { regions = so .regions; parameters = so .parameters; items = so .items + 1; memory = so .memory } ≡ next
+  pub counts : record { regions = so .regions; parameters = so .parameters; items = so .items + 1; tolerances = so .tolerances; memory = so .memory } ≡ next
   pub some : 1 ≤ i .length
   pub most : i .length ≤ 32
   pub zeros : tail ≡ true
@@ -111,3 +111,14 @@ item-read i tail least so n next e =
       few = leb-false 32 (so .items) (p₄ .0);
       rises = ltb-false (i .code) least (p₅ .0);
     }
+
+pub record ToleranceRead (x : ℕ) (so : Counts) (n : ℕ) (next : Counts) : Type 0 where
+  pub size : 2 ≡ n
+  pub counts : record { regions = so .regions; parameters = so .parameters; items = so .items; tolerances = 1; memory = so .memory } ≡ next
+  pub most : x ≤ 3
+
+pub tolerance-read : (x : ℕ) (so : Counts) (n : ℕ) (next : Counts) → judgedTolerance x so ≡ Record n next → ToleranceRead x so n next
+unfolding judgedTolerance
+tolerance-read x so n next e =
+    let p = passed _ bad-record e in
+    record { size = same-size (p .1); counts = same-counts (p .1); most = ltb-false 3 x (p .0) }

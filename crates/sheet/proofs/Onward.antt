@@ -3,24 +3,24 @@ use mathlib.Core.Bool.{Bool, true, false, _&&_, _||_, true≢false}
 use mathlib.Core.Logic.{⊎-elim}
 use mathlib.Core.Path.{_≡_, refl, sym, ap, subst, _∙_}
 use mathlib.Core.List.{List}
-use Prim.Native.Nat.{ℕ, _+_, _-_, _*_, _≤_}
+use Prim.Native.Nat.{ℕ, _+_, _-_, _*_, _≤_, _<_}
 use native.Mathlib.Omega.{arith}
-use borrow.Author.Tests.{eqb-true, eqb-false, ltb-false, eq-eqb, ne-eqb, not-false}
+use borrow.Author.Tests.{eqb-true, eqb-false, ltb-false, lt-leb, eq-eqb, ne-eqb, not-false}
 use lib.Dec.{eqb, ltb}
 use lib.ListN.{length, getD, drop}
-use Rattle.octets.proofs.Cases.{eq-or-ne}
+use Rattle.octets.proofs.Cases.{eq-or-ne, lt-or-le}
 use Rattle.octets.proofs.Pick.{passed, pick-eq, pick-ne, pick-key}
 use Rattle.regions.specs.Apart.{Apart}
 use Rattle.regions.specs.Region.{regionAt, regionsOf}
 use Rattle.regions.proofs.Apart.{apart-listed}
-use Rattle.sheet.specs.Kinds.{isLength, sizeOf, misplacedOf}
-use Rattle.sheet.specs.Reading.{linkOf, regionOf, parameterOf, itemOf, bodyOf, recordOf}
+use Rattle.sheet.specs.Kinds.{isLength, isKind, sizeOf, misplacedOf}
+use Rattle.sheet.specs.Reading.{linkOf, regionOf, parameterOf, itemOf, toleranceOf, bodyOf, recordOf}
 use Rattle.sheet.specs.Sound.{Sound, Counted, Standing, behind}
 use Rattle.sheet.specs.Walk.{none, placeOf}
 use Rattle.sheet.specs.declared.records.Counts.{Counts}
 use Rattle.sheet.specs.declared.records.Reading.the-variants.{Record}
-use Rattle.sheet.proofs.Judged.{bad-record, same-size, same-counts, region-read, parameter-read, item-read}
-use Rattle.sheet.proofs.Steps.{step-link, step-region, step-parameter, step-item}
+use Rattle.sheet.proofs.Judged.{bad-record, same-size, same-counts, region-read, parameter-read, item-read, tolerance-read}
+use Rattle.sheet.proofs.Steps.{step-link, step-region, step-parameter, step-item, step-tolerance}
 
 -- the regions that were counted are ordered and apart
 pub sound-apart : (s : List ℕ) (at : ℕ) (so : Counts) → Sound s at so → Apart 0 (regionsOf s (so .regions))
@@ -53,17 +53,42 @@ count-zero kind k n e f =
 
 -- what a record behind the link record that is in its place tells
 pub in-place : (kind : ℕ) (so : Counts) → misplacedOf false kind so ≡ false
-    → (kind ≡ 1 → ⊥) × (kind ≡ 2 → so .parameters ≡ 0) × (kind ≡ 2 → so .items ≡ 0) × (kind ≡ 3 → so .items ≡ 0)
+    → (kind ≡ 1 → ⊥) × (kind ≡ 2 → so .parameters ≡ 0) × (kind ≡ 2 → so .items ≡ 0) × (kind ≡ 2 → so .tolerances ≡ 0)
+    × (kind ≡ 3 → so .items ≡ 0) × (kind ≡ 3 → so .tolerances ≡ 0) × (kind ≡ 4 → so .tolerances ≡ 0) × (kind ≡ 6 → so .tolerances ≡ 0)
 unfolding misplacedOf
 in-place kind so m =
     let a = eqb kind 1 in
     let b = eqb kind 2 && ltb 0 (so .parameters) in
     let c = eqb kind 2 && ltb 0 (so .items) in
-    let d = eqb kind 3 && ltb 0 (so .items) in
-    let o₁ = or-false (a || b || c) d m in
-    let o₂ = or-false (a || b) c (o₁ .0) in
-    let o₃ = or-false a b (o₂ .0) in
-    (eqb-false kind 1 (o₃ .0), λ e. count-zero kind 2 _ e (o₃ .1), λ e. count-zero kind 2 _ e (o₂ .1), λ e. count-zero kind 3 _ e (o₁ .1))
+    let d = eqb kind 2 && ltb 0 (so .tolerances) in
+    let e = eqb kind 3 && ltb 0 (so .items) in
+    let f = eqb kind 3 && ltb 0 (so .tolerances) in
+    let g = eqb kind 4 && ltb 0 (so .tolerances) in
+    let o₁ = or-false (a || b || c || d || e || f || g) _ m in
+    let o₂ = or-false (a || b || c || d || e || f) g (o₁ .0) in
+    let o₃ = or-false (a || b || c || d || e) f (o₂ .0) in
+    let o₄ = or-false (a || b || c || d) e (o₃ .0) in
+    let o₅ = or-false (a || b || c) d (o₄ .0) in
+    let o₆ = or-false (a || b) c (o₅ .0) in
+    let o₇ = or-false a b (o₆ .0) in (
+      eqb-false kind 1 (o₇ .0),
+      λ z. count-zero kind 2 _ z (o₇ .1),
+      λ z. count-zero kind 2 _ z (o₆ .1),
+      λ z. count-zero kind 2 _ z (o₅ .1),
+      λ z. count-zero kind 3 _ z (o₄ .1),
+      λ z. count-zero kind 3 _ z (o₃ .1),
+      λ z. count-zero kind 4 _ z (o₂ .1),
+      λ z. count-zero kind 6 _ z (o₁ .1),
+    )
+
+-- the kind that is left where the others are not
+pub last-kind : (kind : ℕ) → isKind kind ≡ true → (kind ≡ 0 → ⊥) → (kind ≡ 1 → ⊥) → (kind ≡ 2 → ⊥) → (kind ≡ 3 → ⊥) → (kind ≡ 4 → ⊥) → kind ≡ 6
+unfolding isKind
+last-kind kind known n₀ n₁ n₂ n₃ n₄ =
+    ⊎-elim
+    (λ (l : 4 < kind). eqb-true kind 6 (sym (ap (λ (b : Bool). b || eqb kind 6) (lt-leb kind 4 l)) ∙ known))
+    (λ (l : kind ≤ 4). absurd (let z : ⊥ = omega arith in z))
+    (lt-or-le 4 kind)
 
 -- what the walk goes on with behind a record of n octets
 abbrev pub Goes : List ℕ → List ℕ → ℕ → Counts → Type 0
@@ -99,7 +124,7 @@ module _ (s rest : List ℕ) (so : Counts) (n : ℕ) (next : Counts) (st : Stand
           omega (arith, q .size),
           subst (λ (k : ℕ). k ≤ length rest) (size ∙ q .size) fits,
           step-region s (placeOf s rest) so (st .sound) first here n next
-              (o .1 kind) (o .2 kind) q,
+              (o .1 kind) (o .2 kind) (o .3 kind) q,
         )
 
     later-parameter : getD rest 0 0 ≡ 3 → parameterOf s rest so ≡ Record n next → Goes s rest n next
@@ -110,18 +135,26 @@ module _ (s rest : List ℕ) (so : Counts) (n : ℕ) (next : Counts) (st : Stand
         let size : sizeOf (getD rest 0 0) ≡ 8 = pick-key 0 _ _ kind refl ∙ pick-key 1 _ _ kind refl ∙ pick-key 2 _ _ kind refl ∙ pick-eq _ _ kind in (
           omega (arith, q .size),
           subst (λ (k : ℕ). k ≤ length rest) (size ∙ q .size) fits,
-          step-parameter s (placeOf s rest) so (st .sound) first here n next (o .3 kind) q,
+          step-parameter s (placeOf s rest) so (st .sound) first here n next (o .4 kind) (o .5 kind) q,
         )
 
-    later-item : sizeOf (getD rest 0 0) ≡ 35 → itemOf s rest so ≡ Record n next → Goes s rest n next
+    later-item : getD rest 0 0 ≡ 4 → sizeOf (getD rest 0 0) ≡ 35 → itemOf s rest so ≡ Record n next → Goes s rest n next
     unfolding itemOf
-    later-item size body =
+    later-item kind size body =
+        let o = in-place (getD rest 0 0) so m in
         let q = item-read _ _ _ so n next (rw (st .part) at body) in
-        (omega (arith, q .size), subst (λ (k : ℕ). k ≤ length rest) (size ∙ q .size) fits, step-item s (placeOf s rest) so (st .sound) first here n next q)
+        (omega (arith, q .size), subst (λ (k : ℕ). k ≤ length rest) (size ∙ q .size) fits, step-item s (placeOf s rest) so (st .sound) first here n next (o .6 kind) q)
 
-    later-record : (getD rest 0 0 ≡ 0 → ⊥) → bodyOf (getD rest 0 0) s rest so ≡ Record n next → Goes s rest n next
+    later-tolerance : getD rest 0 0 ≡ 6 → sizeOf (getD rest 0 0) ≡ 2 → toleranceOf rest so ≡ Record n next → Goes s rest n next
+    unfolding toleranceOf
+    later-tolerance kind size body =
+        let o = in-place (getD rest 0 0) so m in
+        let q = tolerance-read _ so n next (rw (st .part) at body) in
+        (omega (arith, q .size), subst (λ (k : ℕ). k ≤ length rest) (size ∙ q .size) fits, step-tolerance s (placeOf s rest) so (st .sound) first here n next (o .7 kind) q)
+
+    later-record : isKind (getD rest 0 0) ≡ true → (getD rest 0 0 ≡ 0 → ⊥) → bodyOf (getD rest 0 0) s rest so ≡ Record n next → Goes s rest n next
     unfolding bodyOf sizeOf
-    later-record n₀ body =
+    later-record known n₀ body =
         let n₁ = in-place (getD rest 0 0) so m .0 in
         let b = sym (pick-ne _ _ n₀ ∙ pick-ne _ _ n₁) ∙ body in
         ⊎-elim
@@ -129,7 +162,13 @@ module _ (s rest : List ℕ) (so : Counts) (n : ℕ) (next : Counts) (st : Stand
         (λ n₂.
         ⊎-elim
         (λ k₃. later-parameter k₃ (sym (pick-ne _ _ n₂ ∙ pick-eq _ _ k₃) ∙ b))
-        (λ n₃. later-item (pick-ne _ _ n₀ ∙ pick-ne _ _ n₁ ∙ pick-ne _ _ n₂ ∙ pick-ne _ _ n₃) (sym (pick-ne _ _ n₂ ∙ pick-ne _ _ n₃) ∙ b))
+        (λ n₃.
+        let size = pick-ne _ _ n₀ ∙ pick-ne _ _ n₁ ∙ pick-ne _ _ n₂ ∙ pick-ne _ _ n₃ in
+        let c = sym (pick-ne _ _ n₂ ∙ pick-ne _ _ n₃) ∙ b in
+        ⊎-elim
+        (λ k₄. later-item k₄ (size ∙ pick-eq _ _ k₄) (sym (pick-eq _ _ k₄) ∙ c))
+        (λ n₄. later-tolerance (last-kind (getD rest 0 0) known n₀ n₁ n₂ n₃ n₄) (size ∙ pick-ne _ _ n₄) (sym (pick-ne _ _ n₄) ∙ c))
+        (eq-or-ne (getD rest 0 0) 4))
         (eq-or-ne (getD rest 0 0) 3))
         (eq-or-ne (getD rest 0 0) 2)
 
@@ -149,5 +188,5 @@ module _ (s rest : List ℕ) (so : Counts) (n : ℕ) (next : Counts) (st : Stand
       first-record (z .0) (z .1) (subst (λ (b : Bool). misplacedOf b (getD rest 0 0) so ≡ false) t (p₃ .0)) fits (p₄ .1))
       (λ h.
       let t = ne-eqb (length rest) (length s) (λ q. let k : ⊥ = omega (arith, h .0) in k) in
-      later-record (h .0) (h .1) (subst (λ (b : Bool). misplacedOf b (getD rest 0 0) so ≡ false) t (p₃ .0)) fits n₀ (p₄ .1))
+      later-record (h .0) (h .1) (subst (λ (b : Bool). misplacedOf b (getD rest 0 0) so ≡ false) t (p₃ .0)) fits (not-false _ (p₂ .0)) n₀ (p₄ .1))
       (st .sound .begun)

@@ -22,7 +22,7 @@ use Rattle.sheet.specs.Reading.{tailOf}
 use Rattle.sheet.specs.Walk.{none}
 use Rattle.sheet.specs.Sound.{FineRegion, FineParameter, FineItem, Sound, behind}
 use Rattle.sheet.specs.declared.records.Counts.{Counts}
-use Rattle.sheet.proofs.Judged.{RegionRead, ParameterRead, ItemRead}
+use Rattle.sheet.proofs.Judged.{RegionRead, ParameterRead, ItemRead, ToleranceRead}
 
 -- a record read from the part that begins at its place is the record at that place
 pub region-there : (s : List ℕ) (at : ℕ) → regionFrom (drop at s) 0 ≡ regionFrom s at
@@ -54,9 +54,9 @@ one-more-pair P n below last i h =
     (lt-or-le (suc i) n)
 
 module _ (s : List ℕ) (at : ℕ) (so : Counts) (ok : Sound s at so) (first : isLength (getD s 1 0) ≡ true) (here : at ≡ behind so) (n : ℕ) (next : Counts) where
-  pub step-region : so .parameters ≡ 0 → so .items ≡ 0 → RegionRead (regionFrom (drop at s) 0) (endBefore s so) so n next → Sound s (at + n) next
+  pub step-region : so .parameters ≡ 0 → so .items ≡ 0 → so .tolerances ≡ 0 → RegionRead (regionFrom (drop at s) 0) (endBefore s so) so n next → Sound s (at + n) next
   unfolding endBefore
-  step-region np nk q =
+  step-region np nk nt q =
       let there : regionFrom (drop at s) 0 ≡ regionAt s (so .regions) =
       region-there s at ∙ ap (regionFrom s) (let e : at ≡ 4 + 10 * so .regions = omega arith in e) in
       let len : regionFrom (drop at s) 0 .length ≡ regionAt s (so .regions) .length = ap (λ r. r .length) there in
@@ -65,6 +65,8 @@ module _ (s : List ℕ) (at : ℕ) (so : Counts) (ok : Sound s at so) (first : i
         few-regions = omega (arith, q .few);
         few-parameters = ok .few-parameters;
         few-items = ok .few-items;
+        few-tolerances = ok .few-tolerances;
+        tolerance-fine = λ t. absurd (let k : ⊥ = omega (arith, nt) in k);
         regions-fine = one-more (λ i. FineRegion (regionAt s i)) (so .regions) (ok .regions-fine)
             (subst (λ r. FineRegion r) there (record { some = q .some; ends = q .ends; bits = q .bits }));
         regions-rise = one-more-pair (λ i. regionAt s i .start + regionAt s i .length ≤ regionAt s (suc i) .start) (so .regions) (ok .regions-rise)
@@ -84,12 +86,12 @@ module _ (s : List ℕ) (at : ℕ) (so : Counts) (ok : Sound s at so) (first : i
         items-rise = λ j h. absurd (let k : ⊥ = omega (arith, nk) in k);
       })
 
-  pub step-parameter : so .items ≡ 0
+  pub step-parameter : so .items ≡ 0 → so .tolerances ≡ 0
       → ParameterRead (parameterFrom (drop at s) 0) (leastNumber s so)
       (spanHas (regionsOf s (so .regions)) Mapped (parameterFrom (drop at s) 0 .address) (parameterFrom (drop at s) 0 .size)) so n next
       → Sound s (at + n) next
   unfolding leastNumber
-  step-parameter nk q =
+  step-parameter nk nt q =
       let r = so .regions in
       let p = so .parameters in
       let there : parameterFrom (drop at s) 0 ≡ parameterAt s r p =
@@ -99,6 +101,8 @@ module _ (s : List ℕ) (at : ℕ) (so : Counts) (ok : Sound s at so) (first : i
         few-regions = ok .few-regions;
         few-parameters = omega (arith, q .few);
         few-items = ok .few-items;
+        few-tolerances = ok .few-tolerances;
+        tolerance-fine = λ t. absurd (let k : ⊥ = omega (arith, nt) in k);
         regions-fine = ok .regions-fine;
         regions-rise = ok .regions-rise;
         memory-sum = ok .memory-sum;
@@ -115,13 +119,13 @@ module _ (s : List ℕ) (at : ℕ) (so : Counts) (ok : Sound s at so) (first : i
         items-rise = λ j h. absurd (let k : ⊥ = omega (arith, nk) in k);
       })
 
-  pub step-item : ItemRead (itemFrom (drop at s) 0) (allZero (tailOf (drop at s))) (leastCode s so) so n next → Sound s (at + n) next
+  pub step-item : so .tolerances ≡ 0 → ItemRead (itemFrom (drop at s) 0) (allZero (tailOf (drop at s))) (leastCode s so) so n next → Sound s (at + n) next
   unfolding leastCode
-  step-item q =
+  step-item nt q =
       let r = so .regions in
       let p = so .parameters in
       let k = so .items in
-      let e : at ≡ 4 + 10 * r + 8 * p + 35 * k = here in
+      let e : at ≡ 4 + 10 * r + 8 * p + 35 * k = omega arith in
       let code : itemFrom (drop at s) 0 .code ≡ itemAt s r p k .code = code-there s at ∙ ap (λ (x : ℕ). itemFrom s x .code) e in
       let len : itemFrom (drop at s) 0 .length ≡ itemAt s r p k .length = length-there s at ∙ ap (λ (x : ℕ). itemFrom s x .length) e in
       subst (λ (c : Counts). Sound s (at + n) c) (q .counts) (record {
@@ -129,6 +133,8 @@ module _ (s : List ℕ) (at : ℕ) (so : Counts) (ok : Sound s at so) (first : i
         few-regions = ok .few-regions;
         few-parameters = ok .few-parameters;
         few-items = omega (arith, q .few);
+        few-tolerances = ok .few-tolerances;
+        tolerance-fine = λ t. absurd (let k : ⊥ = omega (arith, nt) in k);
         regions-fine = ok .regions-fine;
         regions-rise = ok .regions-rise;
         memory-sum = ok .memory-sum;
@@ -143,6 +149,27 @@ module _ (s : List ℕ) (at : ℕ) (so : Counts) (ok : Sound s at so) (first : i
             (let m = pick-ne {m = k} {n = 0} 0 (itemAt s r p (k - 1) .code + 1) z in omega (arith, q .rises)));
       })
 
+  pub step-tolerance : so .tolerances ≡ 0 → ToleranceRead (getD (drop at s) 1 0) so n next → Sound s (at + n) next
+  step-tolerance nt q =
+      let there : getD (drop at s) 1 0 ≡ getD s (5 + 10 * so .regions + 8 * so .parameters + 35 * so .items) 0 =
+      getD-drop at s 1 0 ∙ ap (λ (i : ℕ). getD s i 0) (let e : at + 1 ≡ 5 + 10 * so .regions + 8 * so .parameters + 35 * so .items = omega arith in e) in
+      subst (λ (c : Counts). Sound s (at + n) c) (q .counts) (record {
+        begun = inr (omega (arith, q .size), first);
+        few-regions = ok .few-regions;
+        few-parameters = ok .few-parameters;
+        few-items = ok .few-items;
+        few-tolerances = omega arith;
+        tolerance-fine = λ t. omega (arith, q .most, there);
+        regions-fine = ok .regions-fine;
+        regions-rise = ok .regions-rise;
+        memory-sum = ok .memory-sum;
+        memory-room = ok .memory-room;
+        parameters-fine = ok .parameters-fine;
+        parameters-rise = ok .parameters-rise;
+        items-fine = ok .items-fine;
+        items-rise = ok .items-rise;
+      })
+
 -- at the front: the link record was read
 pub step-link : (s : List ℕ) → Sound s 0 none → isLength (getD s 1 0) ≡ true → Sound s 4 none
 step-link s ok first = record {
@@ -150,6 +177,8 @@ step-link s ok first = record {
   few-regions = ok .few-regions;
   few-parameters = ok .few-parameters;
   few-items = ok .few-items;
+  few-tolerances = ok .few-tolerances;
+  tolerance-fine = ok .tolerance-fine;
   regions-fine = ok .regions-fine;
   regions-rise = ok .regions-rise;
   memory-sum = ok .memory-sum;
@@ -169,6 +198,8 @@ start-sound s =
       few-regions = omega arith;
       few-parameters = omega arith;
       few-items = omega arith;
+      few-tolerances = omega arith;
+      tolerance-fine = λ t. absurd (let k : ⊥ = omega arith in k);
       regions-fine = λ i h. absurd (let k : ⊥ = omega arith in k);
       regions-rise = λ i h. absurd (let k : ⊥ = omega arith in k);
       memory-sum = refl;

@@ -15,7 +15,7 @@ use Rattle.sheet.specs.declared.walk.Verdict.the-variants.{Valid, Faulty
 
 -- for a whole sheet its counts, each in room of its own
 unfoldable pub countsNumber : Counts → ℕ
-countsNumber so = so .regions + 256 * so .parameters + 65536 * so .items + 16777216 * so .memory
+countsNumber so = so .regions + 256 * so .parameters + 65536 * so .items + 16777216 * so .tolerances + 4294967296 * so .memory
 
 -- and for a fault its place, with the fault's number above every count, at 2^56
 unfoldable pub failedNumber : Fault → ℕ → ℕ
@@ -23,7 +23,13 @@ failedNumber fault place = place + 72057594037927936 * numberOf fault
 
 -- the counts that such a number has
 unfoldable pub countsIn : ℕ → Counts
-countsIn n = record { regions = n % 256; parameters = n / 256 % 256; items = n / 65536 % 256; memory = n / 16777216 % 4294967296 }
+countsIn n = record {
+  regions = n % 256;
+  parameters = n / 256 % 256;
+  items = n / 65536 % 256;
+  tolerances = n / 16777216 % 256;
+  memory = n / 4294967296 % 16777216;
+}
 
 -- the fault of a number; one that is none counts as the last
 unfoldable pub faultOf : ℕ → Fault

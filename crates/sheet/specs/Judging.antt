@@ -25,6 +25,7 @@ judgedRegion r end so =
       regions = so .regions + 1;
       parameters = so .parameters;
       items = so .items;
+      tolerances = so .tolerances;
       memory = so .memory + r .length;
     })))))))
 
@@ -40,6 +41,7 @@ judgedParameter p least mapped so =
       regions = so .regions;
       parameters = so .parameters + 1;
       items = so .items;
+      tolerances = so .tolerances;
       memory = so .memory;
     }))))))
 
@@ -55,5 +57,18 @@ judgedItem i tail least so =
       regions = so .regions;
       parameters = so .parameters;
       items = so .items + 1;
+      tolerances = so .tolerances;
       memory = so .memory;
     }))))))
+
+-- kind 06, of request 9: "body of one octet 0 to 3"; it stands once
+unfoldable pub judgedTolerance : ℕ → Counts → Reading
+judgedTolerance n so =
+    pick (ltb 3 n) (Bad Range)
+    (Record 2 (record {
+      regions = so .regions;
+      parameters = so .parameters;
+      items = so .items;
+      tolerances = 1;
+      memory = so .memory;
+    }))

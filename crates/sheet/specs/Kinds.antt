@@ -2,7 +2,7 @@
 use Prim.Native.Nat.{ℕ, _+_, _-_}
 use mathlib.Core.Bool.{Bool, true, false, not, _&&_, _||_}
 use mathlib.Core.List.{List}
-use lib.Dec.{eqb, ltb}
+use lib.Dec.{eqb, ltb, leb}
 use Rattle.octets.specs.Pick.{pick}
 use Rattle.regions.specs.Region.{regionAt}
 use Rattle.sheet.specs.Entries.{parameterAt, itemAt}
@@ -12,18 +12,26 @@ use Rattle.sheet.specs.declared.records.Counts.{Counts}
 unfoldable pub isLength : ℕ → Bool
 isLength l = eqb l 8 || eqb l 16 || eqb l 32 || eqb l 48 || eqb l 64
 
--- the octets of a record, its kind octet among them: 00 end, 01 link, 02 region, 03 parameter, 04 ID item
-unfoldable pub sizeOf : ℕ → ℕ
-sizeOf kind = pick (eqb kind 0) 1 (pick (eqb kind 1) 4 (pick (eqb kind 2) 10 (pick (eqb kind 3) 8 35)))
+-- the kinds that there are: 00 end, 01 link, 02 region, 03 parameter, 04 ID item; request 9: 06 tolerance
+unfoldable pub isKind : ℕ → Bool
+isKind kind = leb kind 4 || eqb kind 6
 
--- "The link record comes first and once; then regions, parameters, ID items, end"
+-- the octets of a record, its kind octet among them
+unfoldable pub sizeOf : ℕ → ℕ
+sizeOf kind = pick (eqb kind 0) 1 (pick (eqb kind 1) 4 (pick (eqb kind 2) 10 (pick (eqb kind 3) 8 (pick (eqb kind 4) 35 2))))
+
+-- "The link record comes first and once; then regions, parameters, ID items, end"; request 9: the tolerance "after the ID items and at most once"
 unfoldable pub misplacedOf : Bool → ℕ → Counts → Bool
 misplacedOf true kind so = not (eqb kind 1)
 misplacedOf false kind so =
     eqb kind 1
     || (eqb kind 2 && ltb 0 (so .parameters))
     || (eqb kind 2 && ltb 0 (so .items))
+    || (eqb kind 2 && ltb 0 (so .tolerances))
     || (eqb kind 3 && ltb 0 (so .items))
+    || (eqb kind 3 && ltb 0 (so .tolerances))
+    || (eqb kind 4 && ltb 0 (so .tolerances))
+    || (eqb kind 6 && ltb 0 (so .tolerances))
 
 -- one past the last address of the region before; 0 where there is none
 unfoldable pub endBefore : List ℕ → Counts → ℕ

@@ -11,8 +11,8 @@ use Rattle.regions.specs.Region.{regionFrom, regionsOf}
 use Rattle.regions.specs.Search.{spanHas}
 use Rattle.regions.specs.declared.Right.the-variants.{Mapped}
 use Rattle.sheet.specs.Entries.{parameterFrom, itemFrom}
-use Rattle.sheet.specs.Judging.{judgedRegion, judgedParameter, judgedItem}
-use Rattle.sheet.specs.Kinds.{isLength, sizeOf, misplacedOf, endBefore, leastNumber, leastCode}
+use Rattle.sheet.specs.Judging.{judgedRegion, judgedParameter, judgedItem, judgedTolerance}
+use Rattle.sheet.specs.Kinds.{isLength, isKind, sizeOf, misplacedOf, endBefore, leastNumber, leastCode}
 use Rattle.sheet.specs.declared.records.Counts.{Counts}
 use Rattle.sheet.specs.declared.records.Fault.the-variants.{Ended, Unknown, Misplaced, Range}
 use Rattle.sheet.specs.declared.records.Reading.{Reading}
@@ -44,6 +44,10 @@ tailOf rest = take (32 - getD rest 2 0) (drop (3 + getD rest 2 0) rest)
 unfoldable pub itemOf : List ℕ → List ℕ → Counts → Reading
 itemOf s rest so = judgedItem (itemFrom rest 0) (allZero (tailOf rest)) (leastCode s so) so
 
+-- kind 06
+unfoldable pub toleranceOf : List ℕ → Counts → Reading
+toleranceOf rest so = judgedTolerance (getD rest 1 0) so
+
 -- a whole record of a known kind in its place; the end record, kind 00, has no body
 unfoldable pub bodyOf : ℕ → List ℕ → List ℕ → Counts → Reading
 bodyOf kind s rest so =
@@ -51,13 +55,14 @@ bodyOf kind s rest so =
     (pick (eqb kind 1) (linkOf rest so)
     (pick (eqb kind 2) (regionOf s rest so)
     (pick (eqb kind 3) (parameterOf s rest so)
-    (itemOf s rest so))))
+    (pick (eqb kind 4) (itemOf s rest so)
+    (toleranceOf rest so)))))
 
 -- "sheet ended before an end record (11), unknown kind (12), kind out of place (13), body cut short (11)", then the record's own checks
 unfoldable pub recordOf : List ℕ → List ℕ → Counts → Reading
 recordOf s rest so =
     pick (eqb (length rest) 0) (Bad Ended)
-    (pick (ltb 4 (getD rest 0 0)) (Bad Unknown)
+    (pick (not (isKind (getD rest 0 0))) (Bad Unknown)
     (pick (misplacedOf (eqb (length rest) (length s)) (getD rest 0 0) so) (Bad Misplaced)
     (whole (sizeOf (getD rest 0 0)) rest
     (bodyOf (getD rest 0 0) s rest so))))

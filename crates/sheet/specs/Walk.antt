@@ -1,5 +1,5 @@
 -- The verdict on a whole sheet. Document 01: "The sheet is read record by record from its front, and the first fault is told."
-use Prim.Native.Nat.{ℕ, zero, suc, _+_, _-_}
+use Prim.Native.Nat.{ℕ, zero, suc, _+_, _-_, _*_}
 use mathlib.Core.List.{List}
 use lib.Dec.{eqb, ltb}
 use lib.ListN.{length, getD, drop}
@@ -15,7 +15,11 @@ use Rattle.sheet.specs.declared.walk.Verdict.the-variants.{Valid, Faulty
 
 -- before the first record
 abbrev pub none : Counts
-none = record { regions = 0; parameters = 0; items = 0; memory = 0 }
+none = record { regions = 0; parameters = 0; items = 0; tolerances = 0; memory = 0 }
+
+-- request 9: the record behind the ID items "allows that many failures in a row, none without it"
+unfoldable pub toleranceIn : List ℕ → Counts → ℕ
+toleranceIn s so = pick (eqb (so .tolerances) 0) 0 (getD s (5 + 10 * so .regions + 8 * so .parameters + 35 * so .items) 0)
 
 -- the link record's L, version and profile stand at 1, 2 and 3
 unfoldable pub layoutOf : List ℕ → Counts → Layout
@@ -26,6 +30,8 @@ layoutOf s so = record {
   regions = so .regions;
   parameters = so .parameters;
   items = so .items;
+  tolerances = so .tolerances;
+  tolerance = toleranceIn s so;
   memory = so .memory;
 }
 

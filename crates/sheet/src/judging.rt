@@ -6,7 +6,7 @@ use crate::records::Fault;
 use crate::records::Reading;
 use regions::Region;
 ghost use mathlib.Core.Path.{_≡_};
-ghost use Rattle.sheet.specs.Judging.{judgedRegion, judgedParameter, judgedItem};
+ghost use Rattle.sheet.specs.Judging.{judgedRegion, judgedParameter, judgedItem, judgedTolerance};
 
 pub fn judge_region(region: Region, end: u64, so: Counts) -> Reading
     ensures { λ r. ⌜ r ≡ judgedRegion region end so ⌝ }
@@ -35,6 +35,7 @@ pub fn judge_region(region: Region, end: u64, so: Counts) -> Reading
             regions: so.regions + 1,
             parameters: so.parameters,
             items: so.items,
+            tolerances: so.tolerances,
             memory: so.memory + region.length,
         },
     )
@@ -64,6 +65,7 @@ pub fn judge_parameter(parameter: Parameter, least: u32, mapped: bool, so: Count
             regions: so.regions,
             parameters: so.parameters + 1,
             items: so.items,
+            tolerances: so.tolerances,
             memory: so.memory,
         },
     )
@@ -93,6 +95,26 @@ pub fn judge_item(item: Item, tail: bool, least: u16, so: Counts) -> Reading
             regions: so.regions,
             parameters: so.parameters,
             items: so.items + 1,
+            tolerances: so.tolerances,
+            memory: so.memory,
+        },
+    )
+}
+
+// Request 9's record, which stands once: how many failures of the watchdog in a row are tolerated.
+pub fn judge_tolerance(tolerance: u8, so: Counts) -> Reading
+    ensures { λ r. ⌜ r ≡ judgedTolerance tolerance so ⌝ }
+{
+    if 3 < tolerance {
+        return Reading::Bad(Fault::Range);
+    }
+    Reading::Record(
+        2,
+        Counts {
+            regions: so.regions,
+            parameters: so.parameters,
+            items: so.items,
+            tolerances: 1,
             memory: so.memory,
         },
     )

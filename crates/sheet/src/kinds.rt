@@ -3,13 +3,20 @@ use crate::records::Counts;
 ghost use mathlib.Core.Path.{_≡_};
 ghost use Prim.Native.Nat.{_+_, _-_, _*_, _≤_};
 ghost use lib.ListN.{length};
-ghost use Rattle.sheet.specs.Kinds.{isLength, misplacedOf, endBefore, leastNumber, leastCode};
+ghost use Rattle.sheet.specs.Kinds.{isLength, isKind, misplacedOf, endBefore, leastNumber, leastCode};
 
 // Whether a PDU length is one of the five.
 pub fn is_length(l: u8) -> bool
     ensures { λ r. ⌜ r ≡ isLength l ⌝ }
 {
     (l == 8) | (l == 16) | (l == 32) | (l == 48) | (l == 64)
+}
+
+// Whether a kind is one of those that a sheet may have.
+pub fn is_kind(kind: u8) -> bool
+    ensures { λ r. ⌜ r ≡ isKind kind ⌝ }
+{
+    (kind <= 4) | (kind == 6)
 }
 
 // Whether a known kind is out of place: at the front all but the link record, behind it the link record and what should come before.
@@ -21,8 +28,10 @@ pub fn misplaced(first: bool, kind: u8, so: Counts) -> bool
     }
     match kind {
         1 => true,
-        2 => (0 < so.parameters) | (0 < so.items),
-        3 => 0 < so.items,
+        2 => (0 < so.parameters) | (0 < so.items) | (0 < so.tolerances),
+        3 => (0 < so.items) | (0 < so.tolerances),
+        4 => 0 < so.tolerances,
+        6 => 0 < so.tolerances,
         _ => false,
     }
 }

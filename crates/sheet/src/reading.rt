@@ -8,7 +8,7 @@ ghost use lib.ListN.{length, take, drop};
 ghost use Rattle.octets.specs.Parts.{allZero};
 ghost use Rattle.sheet.specs.Kinds.{sizeOf};
 ghost use Rattle.sheet.specs.Sound.{Counted};
-ghost use Rattle.sheet.specs.Reading.{whole, linkOf, regionOf, parameterOf, itemOf, bodyOf, recordOf};
+ghost use Rattle.sheet.specs.Reading.{whole, linkOf, regionOf, parameterOf, itemOf, toleranceOf, bodyOf, recordOf};
 
 fn read_link(rest: &[u8], so: Counts) -> Reading
     ensures { λ r. ⌜ r ≡ whole 4 (now (rest .entry)) (linkOf (now (rest .entry)) so) ⌝ }
@@ -71,6 +71,15 @@ fn read_item(sheet: &[u8], rest: &[u8], so: Counts) -> Reading
     crate::judging::judge_item(item, tail, crate::kinds::least_code(sheet, so), so)
 }
 
+fn read_tolerance(rest: &[u8], so: Counts) -> Reading
+    ensures { λ r. ⌜ r ≡ whole 2 (now (rest .entry)) (toleranceOf (now (rest .entry)) so) ⌝ }
+{
+    if rest.len() < 2 {
+        return Reading::Bad(Fault::Ended);
+    }
+    crate::judging::judge_tolerance(octets::octet(rest, 1), so)
+}
+
 // A record of a known kind in its place. Each kind's own reading looks whether the record is whole, so that the kind is asked once.
 fn read_body(kind: u8, sheet: &[u8], rest: &[u8], so: Counts) -> Reading
     requires { ⌜ (1 ≤ length (now rest)) × Counted (now sheet) so ⌝ }
@@ -81,7 +90,8 @@ fn read_body(kind: u8, sheet: &[u8], rest: &[u8], so: Counts) -> Reading
         1 => read_link(rest, so),
         2 => read_region(sheet, rest, so),
         3 => read_parameter(sheet, rest, so),
-        _ => read_item(sheet, rest, so),
+        4 => read_item(sheet, rest, so),
+        _ => read_tolerance(rest, so),
     }
 }
 
@@ -94,7 +104,7 @@ pub fn read_record(sheet: &[u8], rest: &[u8], so: Counts) -> Reading
         return Reading::Bad(Fault::Ended);
     }
     let kind = rest[0];
-    if 4 < kind {
+    if !crate::kinds::is_kind(kind) {
         return Reading::Bad(Fault::Unknown);
     }
     if crate::kinds::misplaced(rest.len() == sheet.len(), kind, so) {

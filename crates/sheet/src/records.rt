@@ -18,6 +18,7 @@ pub struct Counts {
     pub regions: u8,
     pub parameters: u8,
     pub items: u8,
+    pub tolerances: u8,
     pub memory: u32,
 }
 

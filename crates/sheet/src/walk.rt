@@ -7,9 +7,9 @@ ghost use Prim.Native.Nat.{ℕ, _≤_, _<_, _-_};
 ghost use lib.ListN.{length, drop};
 ghost use Rattle.sheet.specs.Sound.{Standing};
 ghost use Rattle.sheet.specs.Handed.{countsNumber, failedNumber, faultOf, tells, failedAt};
-ghost use Rattle.sheet.specs.Walk.{layoutOf, endedOf, walkOf, verdictOf};
+ghost use Rattle.sheet.specs.Walk.{toleranceIn, layoutOf, endedOf, walkOf, verdictOf};
 
-// What a valid sheet says: the link record's three fields, the counts, and the octets of memory.
+// What a valid sheet says: the link record's three fields, the counts, how many failures in a row it tolerates, and the octets of memory.
 pub struct Layout {
     pub l: u8,
     pub version: u8,
@@ -17,6 +17,8 @@ pub struct Layout {
     pub regions: u8,
     pub parameters: u8,
     pub items: u8,
+    pub tolerances: u8,
+    pub tolerance: u8,
     pub memory: u32,
 }
 
@@ -24,6 +26,19 @@ pub struct Layout {
 pub enum Verdict {
     Valid(Layout),
     Faulty(Fault, u16),
+}
+
+// The failures in a row that a sheet tolerates: what its record behind the items says, and none without it.
+fn tolerance_in(sheet: &[u8], so: Counts) -> u8
+    ensures { λ r. ⌜ r ≡ toleranceIn (now (sheet .entry)) so ⌝ }
+{
+    if so.tolerances == 0 {
+        return 0;
+    }
+    octets::octet(
+        sheet,
+        5 + 10 * (so.regions as usize) + 8 * (so.parameters as usize) + 35 * (so.items as usize),
+    )
 }
 
 // The layout of a sheet whose records were counted.
@@ -37,6 +52,8 @@ fn laid_out(sheet: &[u8], so: Counts) -> Layout
         regions: so.regions,
         parameters: so.parameters,
         items: so.items,
+        tolerances: so.tolerances,
+        tolerance: tolerance_in(sheet, so),
         memory: so.memory,
     }
 }
@@ -52,7 +69,8 @@ fn counted(so: Counts) -> u64
     so.regions as u64
         + 256 * (so.parameters as u64)
         + 65536 * (so.items as u64)
-        + 16777216 * (so.memory as u64)
+        + 16777216 * (so.tolerances as u64)
+        + 4294967296 * (so.memory as u64)
 }
 
 // A fault with its place as one number.
@@ -76,7 +94,7 @@ fn fault_at(read: Reading, place: usize) -> u64
 
 // At the end record, which stands at a place of the sheet: nothing may stand behind it.
 fn ended(sheet: &[u8], at: usize, so: Counts) -> u64
-    requires { ⌜ (length (now sheet) ≤ 2048) × (at ≤ length (now sheet)) ⌝ }
+    requires { ⌜ (length (now sheet) ≤ 2048) × (at ≤ length (now sheet)) × (so .memory ≤ 65536) ⌝ }
     ensures { λ r. ⌜ tells (now (sheet .entry)) r ≡ endedOf (now (sheet .entry)) (drop at (now (sheet .entry))) so ⌝ }
 {
     let behind = at + 1;
@@ -130,7 +148,8 @@ fn told(sheet: &[u8], walked: u64) -> Verdict
                 regions: (walked % 256) as u8,
                 parameters: (walked / 256 % 256) as u8,
                 items: (walked / 65536 % 256) as u8,
-                memory: (walked / 16777216 % 4294967296) as u32,
+                tolerances: (walked / 16777216 % 256) as u8,
+                memory: (walked / 4294967296 % 16777216) as u32,
             },
         ));
     }
@@ -148,6 +167,7 @@ pub fn check(sheet: &[u8]) -> Verdict
         regions: 0,
         parameters: 0,
         items: 0,
+        tolerances: 0,
         memory: 0,
     };
     told(sheet, walk(&sheet, 0, none))

@@ -51,7 +51,7 @@ unfoldable pub exchangeOf : List ℕ → List ℕ → List ℕ → List ℕ → 
 exchangeOf sheet state memory command reply =
     onSheet (verdictOf sheet) (λ refusal. left refusal state memory reply)
     (λ lay.
-    onState (stateOf state (lay .l)) (left (told 1 0) state memory reply)
+    onState (stateOf state (lay .l) (lay .tolerance)) (left (told 1 0) state memory reply)
     (λ st.
     pick (not (eqb (refusalOf lay st (length memory) (length command) (length reply)) 0))
     (left (told (refusalOf lay st (length memory) (length command) (length reply)) 0) state memory reply)
@@ -67,7 +67,7 @@ pub record Lent (sheet memory command reply : List ℕ) (lay : Layout) : Type 0 
 -- what holds where nothing refuses: what the code that builds the reply leans on
 pub record Ready (sheet state memory command reply : List ℕ) (lay : Layout) (st : LinkState) : Type 0 where
   pub valid : verdictOf sheet ≡ Valid lay
-  pub held : stateOf state (lay .l) ≡ State st
+  pub held : stateOf state (lay .l) (lay .tolerance) ≡ State st
   pub whole : length memory ≡ lay .memory
   pub asked : length command ≡ lay .l
   pub lent : length reply ≡ lay .l

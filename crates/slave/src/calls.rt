@@ -6,7 +6,7 @@ use sheet::walk::Verdict;
 ghost use mathlib.Core.Path.{_≡_};
 ghost use Rattle.slave.specs.Calls.{after, resetOf, enableOf};
 
-// Disabled with the sheet's L and zeros, over ten octets of any content.
+// Disabled with the sheet's L and zeros, over eleven octets of any content.
 pub fn reset(sheet: &[u8], state: &mut [u8]) -> Answer
     ensures { λ r. ⌜ after r (now (state .exit)) ≡ resetOf (now (sheet .entry)) (now (state .entry)) ⌝ }
 {
@@ -29,7 +29,7 @@ pub fn enable(sheet: &[u8], state: &mut [u8]) -> Answer
     let Verdict::Valid(layout) = verdict else {
         return crate::answers::sheet_answer(verdict);
     };
-    let held = link::stored::read(state, layout.l);
+    let held = link::stored::read(state, layout.l, layout.tolerance);
     let Stored::State(st) = held else {
         return crate::answers::plain(crate::answers::BAD_STATE);
     };

@@ -106,7 +106,7 @@ pub fn exchange(
     let Verdict::Valid(layout) = verdict else {
         return crate::answers::sheet_answer(verdict);
     };
-    let held = link::stored::read(state, layout.l);
+    let held = link::stored::read(state, layout.l, layout.tolerance);
     let Stored::State(st) = held else {
         return crate::answers::plain(crate::answers::BAD_STATE);
     };

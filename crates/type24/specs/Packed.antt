@@ -8,10 +8,14 @@ use Rattle.sheet.specs.declared.walk.Verdict.the-variants.{Valid, Faulty}
 use Rattle.slave.specs.Calls.{After}
 use Rattle.slave.specs.Exchange.{Left}
 
+-- the release of the archive: 1 had a state record of ten octets
+abbrev pub release : ℕ
+release = 2
+
 abbrev pub packed : Answer → ℕ
 packed a = a .number + 4294967296 * a .place
 
--- what a call of reset or enable leaves behind
+-- what a call of reset, enable or turning leaves behind
 pub record PackedAfter : Type 0 where
   pub answer : ℕ
   pub state : List ℕ

@@ -1,19 +1,28 @@
 // The slave's calls for C hosts: numbers and byte slices alone cross this boundary, and every call checks every lent length itself.
-// An answer is one number: document 01's, or for a replay document 02's or our own, + 2^32 × place; of `t24_lengths` it is L + 2^32 × the memory's length.
+// An answer is one number: document 01's, or for a replay document 02's or our own, + 2^32 × place; of `t24_lengths` it is L + 2^32 × the memory's length, of
+// `t24_version` the release.
 use sheet::walk::Verdict;
 use slave::answers::Answer;
 ghost use mathlib.Core.Path.{_≡_};
 ghost use Rattle.replay.specs.Replay.{replayOf};
 ghost use Rattle.sheet.specs.Walk.{verdictOf};
 ghost use Rattle.slave.specs.Answers.{sheetAnswer};
-ghost use Rattle.slave.specs.Calls.{resetOf, enableOf};
+ghost use Rattle.slave.specs.Calls.{resetOf, enableOf, turnOf};
 ghost use Rattle.slave.specs.Exchange.{exchangeOf};
-ghost use Rattle.type24.specs.Packed.{packed, packedAfter, afterCall, packedLeft, leftByCall, lengthsOf, packedReplay, byReplay};
+ghost use Rattle.type24.specs.Packed.{release, packed, packedAfter, afterCall, packedLeft, leftByCall, lengthsOf, packedReplay, byReplay};
 
 fn pack(answer: Answer) -> u64
     ensures { λ r. ⌜ r ≡ packed answer ⌝ }
 {
     answer.number as u64 + 4294967296 * (answer.place as u64)
+}
+
+// The release of this archive, which the header has too: it goes up where a length, a number or a record of the boundary changes.
+#[no_mangle]
+pub extern "C" fn t24_version() -> u64
+    ensures { λ r. ⌜ r ≡ release ⌝ }
+{
+    2
 }
 
 // The verdict on a sheet: 0, or a fault with its place.
@@ -40,6 +49,14 @@ pub extern "C" fn t24_reset(sheet: &[u8], state: &mut [u8]) -> u64
     ensures { λ r. ⌜ packedAfter r (now (state .exit)) ≡ afterCall (resetOf (now (sheet .entry)) (now (state .entry))) ⌝ }
 {
     pack(slave::calls::reset(sheet, state))
+}
+
+// A state record of release 1 turned into one of today; the old one is only read.
+#[no_mangle]
+pub extern "C" fn t24_turn(sheet: &[u8], old: &[u8], state: &mut [u8]) -> u64
+    ensures { λ r. ⌜ packedAfter r (now (state .exit)) ≡ afterCall (turnOf (now (sheet .entry)) (now (old .entry)) (now (state .entry))) ⌝ }
+{
+    pack(slave::turning::turn(sheet, old, state))
 }
 
 #[no_mangle]

@@ -6,9 +6,9 @@ use Rattle.link.proofs.stored.fields.Tie as tie
 
 returns : tie.Need-returns
 unfolding fieldsOf
-returns c = rw (c .before .before .before .before .before .before .before .before .octet .ensures, c .before .before .before .before .before .before .before .octet2 .ensures, c .before .before .before .before .before .before .octet3 .ensures, c .before .before .before .before .before .octet4 .ensures, c .before .before .before .before .octet5 .ensures, c .before .before .before .octet6 .ensures, c .before .before .octet7 .ensures, c .before .octet8 .ensures, c .octet9 .ensures)
+returns c = rw (c .before .before .before .before .before .before .before .before .before .octet .ensures, c .before .before .before .before .before .before .before .before .octet2 .ensures, c .before .before .before .before .before .before .before .octet3 .ensures, c .before .before .before .before .before .before .octet4 .ensures, c .before .before .before .before .before .octet5 .ensures, c .before .before .before .before .octet6 .ensures, c .before .before .before .octet7 .ensures, c .before .before .octet8 .ensures, c .before .octet9 .ensures, c .octet10 .ensures)
 
 pub fields-spec : {M : Type 1} → statement M
 fields-spec =
     tie.close (tie.spec (λ c κs. search needs) (λ c κs. search needs) (λ c κs. search needs) (λ c κs. search needs) (λ c κs. search needs)
-    (λ c κs. search needs) (λ c κs. search needs) (λ c κs. search needs) (λ c κs. search needs) returns)
+    (λ c κs. search needs) (λ c κs. search needs) (λ c κs. search needs) (λ c κs. search needs) (λ c κs. search needs) returns)

@@ -28,7 +28,7 @@ returns-3 c =
     sym
     (pick-no _ _ (ap not (eq-eqb _ _ (c .before .before .before .before .before .if1 .left)))
     ∙ pick-no _ _ (ap not (eq-eqb _ _ (sym (c .before .before .before .before .octet .ensures) ∙ c .before .before .before .if2 .left)))
-    ∙ pick-yes _ _ (ap not (sym (c .before .valid .ensures ∙ ap (λ (st : LinkState). validOf st (c .before .before .before .before .before .before .before .args .l)) (c .before .before .fields .ensures))) ∙ c .if3 .taken))
+    ∙ pick-yes _ _ (ap not (sym (c .before .valid .ensures ∙ ap (λ (st : LinkState). validOf st (c .before .before .before .before .before .before .before .args .l) (c .before .before .before .before .before .before .before .args .tolerance)) (c .before .before .fields .ensures))) ∙ c .if3 .taken))
 
 returns-4 : tie.Need-returns-4
 unfolding stateOf
@@ -37,7 +37,7 @@ returns-4 c =
     ∙ sym
     (pick-no _ _ (ap not (eq-eqb _ _ (c .before .before .before .before .before .if1 .left)))
     ∙ pick-no _ _ (ap not (eq-eqb _ _ (sym (c .before .before .before .before .octet .ensures) ∙ c .before .before .before .if2 .left)))
-    ∙ pick-no _ _ (ap not (sym (c .before .valid .ensures ∙ ap (λ (st : LinkState). validOf st (c .before .before .before .before .before .before .before .args .l)) (c .before .before .fields .ensures))) ∙ c .if3 .left))
+    ∙ pick-no _ _ (ap not (sym (c .before .valid .ensures ∙ ap (λ (st : LinkState). validOf st (c .before .before .before .before .before .before .before .args .l) (c .before .before .before .before .before .before .before .args .tolerance)) (c .before .before .fields .ensures))) ∙ c .if3 .left))
 
 pub read-spec : {M : Type 1} → statement M
 read-spec =

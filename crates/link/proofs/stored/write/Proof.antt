@@ -1,4 +1,4 @@
--- `link::stored::write` meets its contract: ten stores in a row are the record.
+-- `link::stored::write` meets its contract: eleven stores in a row are the record.
 use Prim.Native.Nat.{ℕ}
 use mathlib.Core.Bool.{not}
 use mathlib.Core.Path.{_≡_, sym, ap, _∙_}
@@ -44,6 +44,9 @@ slice-write-state-9 c = simp length-set (omega arith)
 slice-write-state-10 : tie.Need-slice-write-state-10
 slice-write-state-10 c = simp length-set (omega arith)
 
+slice-write-state-11 : tie.Need-slice-write-state-11
+slice-write-state-11 c = simp length-set (omega arith)
+
 same-length : tie.Need-same-length
 same-length c = search needs
 
@@ -52,12 +55,12 @@ unfolding stored octetsOf
 returns-2 c =
     let a = c .before .args in
     let s = a .state .now in
-    let e : length s ≡ 10 = c .if1 .left in
+    let e : length s ≡ 11 = c .if1 .left in
     sets-eq (octetsOf (a .st)) s 0 (omega arith)
-    ∙ ap (λ (r : List ℕ). octetsOf (a .st) ++ r) (drop-of-length-le s {i = 10} (omega arith))
+    ∙ ap (λ (r : List ℕ). octetsOf (a .st) ++ r) (drop-of-length-le s {i = 11} (omega arith))
     ∙ sym (pick-no _ _ (ap not (eq-eqb _ _ e)))
 
 pub write-spec : {M : Type 1} → statement M
 write-spec =
     tie.close (tie.spec returns (λ c. search needs) slice-write-state-2 slice-write-state-3 slice-write-state-4 slice-write-state-5
-    slice-write-state-6 slice-write-state-7 slice-write-state-8 slice-write-state-9 slice-write-state-10 same-length returns-2)
+    slice-write-state-6 slice-write-state-7 slice-write-state-8 slice-write-state-9 slice-write-state-10 slice-write-state-11 same-length returns-2)

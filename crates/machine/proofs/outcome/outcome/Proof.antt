@@ -13,8 +13,8 @@ use Rattle.machine.proofs.outcome.outcome.Tie as tie
 returns : tie.Need-returns
 unfolding outcomeOf
 returns c =
-    let f = ap (λ (b : Bool). eqb (c .before .before .before .before .before .before .args .st .link) 3 && not b) (sym (c .before .before .follows .ensures)) in
-    ap (comesTo 0 Whole Quiet) (c .lost .ensures) ∙ sym (pick-yes _ _ (f ∙ c .before .if1 .taken))
+    let f = ap (λ (b : Bool). eqb (c .before .before .before .before .before .before .before .args .st .link) 3 && not b) (sym (c .before .before .before .follows .ensures)) in
+    ap (comesTo 0 Whole Quiet) (c .missed .ensures) ∙ sym (pick-yes _ _ (f ∙ c .before .before .if1 .taken))
 
 returns-2 : tie.Need-returns-2
 unfolding outcomeOf

@@ -49,14 +49,24 @@ returns-4 c =
 returns-5 : tie.Need-returns-5
 unfolding bodyOf sizeOf
 returns-5 c =
-    let n = c .before .match .rest in
+    let k = c .before .match .keys5 in
     c .read-item .ensures
     ∙ sym
+    (ap₂ (λ (n : ℕ) (r : Reading). whole n (c .before .before .before .before .args .rest .now) r)
+    (pick-key 0 _ _ k refl ∙ pick-key 1 _ _ k refl ∙ pick-key 2 _ _ k refl ∙ pick-key 3 _ _ k refl ∙ pick-eq _ _ k)
+    (pick-key 0 _ _ k refl ∙ pick-key 1 _ _ k refl ∙ pick-key 2 _ _ k refl ∙ pick-key 3 _ _ k refl ∙ pick-eq _ _ k))
+
+returns-6 : tie.Need-returns-6
+unfolding bodyOf sizeOf
+returns-6 c =
+    let n = c .before .match .rest in
+    c .read-tolerance .ensures
+    ∙ sym
     (ap₂ (λ (m : ℕ) (r : Reading). whole m (c .before .before .before .before .args .rest .now) r)
-    (pick-ne _ _ (n .0 .0 .0 .1) ∙ pick-ne _ _ (n .0 .0 .1) ∙ pick-ne _ _ (n .0 .1) ∙ pick-ne _ _ (n .1))
-    (pick-ne _ _ (n .0 .0 .0 .1) ∙ pick-ne _ _ (n .0 .0 .1) ∙ pick-ne _ _ (n .0 .1) ∙ pick-ne _ _ (n .1)))
+    (pick-ne _ _ (n .0 .0 .0 .0 .1) ∙ pick-ne _ _ (n .0 .0 .0 .1) ∙ pick-ne _ _ (n .0 .0 .1) ∙ pick-ne _ _ (n .0 .1) ∙ pick-ne _ _ (n .1))
+    (pick-ne _ _ (n .0 .0 .0 .0 .1) ∙ pick-ne _ _ (n .0 .0 .0 .1) ∙ pick-ne _ _ (n .0 .0 .1) ∙ pick-ne _ _ (n .0 .1) ∙ pick-ne _ _ (n .1)))
 
 pub read-body-spec : {M : Type 1} → statement M
 read-body-spec =
-    tie.close (tie.spec (λ c κs. search needs) (λ c κs. search needs) (λ c κs. search needs) (λ c κs. search needs) returns returns-2 returns-3
-    returns-4 returns-5)
+    tie.close (tie.spec (λ c κs. search needs) (λ c κs. search needs) (λ c κs. search needs) (λ c κs. search needs) (λ c κs. search needs) returns
+    returns-2 returns-3 returns-4 returns-5 returns-6)

@@ -34,7 +34,7 @@ returns-2 c =
     let l : length (drop (a .at) s) ≡ length s - a .at = length-drop (a .at) s in
     let last : length (drop (a .at) s) ≤ 1 = omega arith in
     ap (tells s) (c .counted .ensures)
-    ∙ tells-counts s (a .so) (omega arith) (omega arith) (omega arith) (omega arith)
+    ∙ tells-counts s (a .so) (omega arith) (omega arith) (omega arith) (omega arith) (omega (arith, c .before .before .before .pre .2))
     ∙ sym (pick-ge _ _ last)
 
 pub ended-spec : {M : Type 1} → statement M

@@ -40,7 +40,7 @@ unfolding enableOf
 returns-4 c =
     let st = sym (c .before .before .before .before .before .before .before .before .before .before .before .read .ensures) ∙ c .before .before .before .before .before .before .before .before .before .held .given .1 in
     ap₂ after (c .plain3 .ensures)
-    (c .before .before .before .write .ensures ∙ written (c .before .before .before .before .before .before .before .before .before .before .before .before .before .before .before .before .before .before .before .args .state .now) (c .before .before .before .before .enabled .result) (read-valid _ _ _ st .0) ∙ ap octetsOf (c .before .before .before .before .enabled .ensures))
+    (c .before .before .before .write .ensures ∙ written (c .before .before .before .before .before .before .before .before .before .before .before .before .before .before .before .before .before .before .before .args .state .now) (c .before .before .before .before .enabled .result) (read-valid _ _ _ _ st .0) ∙ ap octetsOf (c .before .before .before .before .enabled .ensures))
     ∙ sym (on-valid _ _ _ _ (sym (c .before .before .before .before .before .before .before .before .before .before .before .before .before .before .before .before .check .ensures) ∙ c .before .before .before .before .before .before .before .before .before .before .before .before .before .before .verdict .given .1) ∙ on-state _ _ _ _ st ∙ pick-no _ _ (ap not (eq-eqb _ _ (c .before .before .before .before .before .before .if1 .left))))
 
 pub enable-spec : {M : Type 1} → statement M
