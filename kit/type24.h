@@ -17,7 +17,6 @@
  *    them writes is shared.  A call needs up to 1 KiB of stack.
  *  - Numbers of more than one octet in sheet, command and reply are sent low
  *    octet first.
- *
  *  - Headers and archive must be of one release: t24_release_fits() tells.
  *
  * These come with this header:
@@ -159,8 +158,8 @@ uint64_t t24_replay(const uint8_t *sheet, size_t sheet_len,
  * state_len is not T24_STATE_LEN; else T24_DONE.  t24_turn_words() in
  * type24_words.h says which.
  * Afterwards: on T24_DONE the state has the old record's fields, with
- * T24_STATE_KIND and 0 failures in a row; else it is unchanged.  Sheet and old
- * record are unchanged.
+ * T24_STATE_KIND and 0 lost cycles in a row; else it is unchanged.  Sheet and
+ * old record are unchanged.
  */
 uint64_t t24_turn(const uint8_t *sheet, size_t sheet_len,
                   const uint8_t *old, size_t old_len,

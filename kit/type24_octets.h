@@ -52,7 +52,7 @@
 #define T24_ITEM_AT_CODE 1
 #define T24_ITEM_AT_LENGTH 2 /* 1 to T24_ITEM_OCTETS */
 #define T24_ITEM_AT_OCTETS 3 /* those past the length are zero */
-#define T24_TOLERANCE_AT_COUNT 1 /* 0 to T24_TOLERANCE_MAX; 0 without it */
+#define T24_TOLERANCE_AT_COUNT 1 /* 0 to T24_TOLERANCE_MAX */
 
 #define T24_RIGHT_READ 0x01 /* rights of a region (RULES 4.3) */
 #define T24_RIGHT_WRITE_ASYNC 0x02

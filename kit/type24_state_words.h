@@ -114,14 +114,15 @@ static inline const char *t24_state_field_words(const uint8_t *state, size_t l)
     return words != NULL ? words : t24_state_link_words(state);
 }
 
-/* What is wrong with the failures in a row, or NULL. */
+/* What is wrong with the lost cycles in a row, or NULL. */
 static inline const char *t24_state_row_words(const uint8_t *state,
                                               uint32_t tolerance)
 {
     const uint8_t failures = state[T24_AT_FAILURES];
 
     if (failures > tolerance)
-        return "octet 10, lost cycles in a row, is more than the sheet tolerates";
+        return "octet 10, lost cycles in a row, is more than the sheet "
+               "tolerates";
     if (failures != 0 && state[T24_AT_LINK] != T24_LINK_SYNC)
         return "octet 10, lost cycles in a row, is not 0 outside link 3";
     if (failures != 0 && state[T24_AT_MN_KNOWN] == 0)

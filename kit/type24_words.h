@@ -176,11 +176,12 @@ static inline void t24_put_misfit(struct t24_text *text, uint32_t number,
 }
 
 /*
- * An answer of any call but t24_turn in words, by what the call was lent: for 1 "1: state
- * record of wrong length or not valid: octet 2, L, is not the sheet's", for 2
- * "2: memory length is not the sum of the regions: 7, not 8", for 11 to 17 as
- * t24_sheet_words, for 31 to 35 as t24_trace_words, for others the number and
- * t24_words().  What the call was not lent has length 0, and may be NULL.
+ * An answer of any call but t24_turn in words, by what the call was lent: for 1
+ * "1: state record of wrong length or not valid: octet 2, L, is not the
+ * sheet's", for 2 "2: memory length is not the sum of the regions: 7, not 8",
+ * for 11 to 17 as t24_sheet_words, for 31 to 35 as t24_trace_words, for others
+ * the number and t24_words().  What the call was not lent has length 0, and may
+ * be NULL.
  */
 static inline size_t t24_refusal_words(const uint8_t *sheet, size_t sheet_len,
                                        const uint8_t *state, size_t state_len,
