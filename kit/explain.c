@@ -13,20 +13,11 @@
 #include "explain_call.h"
 #include "explain_file.h"
 #include "explain_show.h"
+#include "explain_slave.h"
 #include "type24.h"
 #include "type24_words.h"
 
-enum { AGREES = 0, DIFFERS = 1, REFUSED = 2 };
 enum { PIECE = 1 << 18 }; /* octets of a trace between two looks at progress */
-
-/* The slave of a trace, and the trace. */
-struct replay {
-    struct file sheet, state, memory, trace;
-    uint8_t *memory_before;
-    size_t l, size;      /* octets of a PDU, and of a record */
-    int progress;        /* whether it is shown */
-    unsigned long shown; /* the percent shown last; 101 before the first */
-};
 
 static int explain_sheet(const char *path)
 {
@@ -43,34 +34,6 @@ static int explain_sheet(const char *path)
     }
     free(sheet.octets);
     return status;
-}
-
-/* The file that a refusal of this number is about. */
-static const char *refused_path(const struct replay *run, uint32_t number)
-{
-    if (number == T24_BAD_STATE || number == T24_IS_DISABLED)
-        return run->state.path;
-    if (number == T24_BAD_MEMORY)
-        return run->memory.path;
-    return (number < T24_TRACE_KIND ? run->sheet : run->trace).path;
-}
-
-static int refused(const struct replay *run, uint64_t answer)
-{
-    char words[256];
-
-    t24_refusal_words(run->sheet.octets, run->sheet.len, run->state.octets,
-                      run->state.len, run->memory.len, run->trace.octets,
-                      run->trace.len, answer, words, sizeof words);
-    complain(refused_path(run, t24_number(answer)), words);
-    return REFUSED;
-}
-
-static uint64_t replay_piece(struct replay *run, size_t at, size_t len)
-{
-    return t24_replay(run->sheet.octets, run->sheet.len, run->state.octets,
-                      run->state.len, run->memory.octets, run->memory.len,
-                      run->trace.octets + at, len);
 }
 
 /* A trace that has its form may go by in pieces, and is replayed the same. */
@@ -102,34 +65,6 @@ static void end_progress(struct replay *run)
 {
     if (run->progress)
         fprintf(stderr, "\n");
-}
-
-/* Whether our watchdog fails at the command, and then why; to be asked before
- * the exchange, which changes the state record. */
-static int print_lost(const struct replay *run, const uint8_t *command)
-{
-    char words[256];
-
-    if (!t24_watchdog_fails(run->state.octets, command))
-        return 0;
-    t24_watchdog_words(run->state.octets, command, words, sizeof words);
-    printf("ours failed the watchdog: %s\n", words);
-    return 1;
-}
-
-/* Which octet of the command was wrong, where our reply refuses it. */
-static void print_refused(const struct replay *run, const uint8_t *command,
-                          const uint8_t *ours, uint64_t answer)
-{
-    const uint32_t alarm = t24_reply_alarm(ours);
-    char words[256];
-
-    if (alarm == T24_ALARM_NONE)
-        return;
-    t24_refused_command_words(run->sheet.octets, run->sheet.len,
-                              run->state.octets[T24_AT_LINK], command, run->l,
-                              alarm, t24_place(answer), words, sizeof words);
-    printf("ours is refused: %s\n", words);
 }
 
 /* State and memory stand as before the record, so the slave's reply to it is
@@ -167,8 +102,20 @@ static int differs(struct replay *run, size_t record, size_t octet)
     return DIFFERS;
 }
 
+/* The replies are ours, so each that tells of a tolerated lost cycle is one. */
+static size_t count_tolerated(const struct replay *run)
+{
+    size_t at, count = 0;
+
+    for (at = 0; at < run->trace.len; at += run->size)
+        count += (size_t)t24_reply_tolerated(
+            run->trace.octets + at + T24_TRACE_AT_COMMAND + run->l);
+    return count;
+}
+
 static int agrees(const struct replay *run)
 {
+    const size_t tolerated = count_tolerated(run);
     char words[256];
     size_t i, changed = 0;
 
@@ -178,6 +125,9 @@ static int agrees(const struct replay *run)
     printf("all agree: %lu record%s\n",
            (unsigned long)(run->trace.len / run->size),
            run->trace.len == run->size ? "" : "s");
+    if (tolerated > 0)
+        printf("lost:   %lu cycle%s, tolerated\n", (unsigned long)tolerated,
+               tolerated == 1 ? "" : "s");
     printf("after:  %s\n", words);
     printf("memory: %lu of %lu octets changed\n", (unsigned long)changed,
            (unsigned long)run->memory.len);
@@ -206,14 +156,19 @@ static int play(struct replay *run)
     return t24_number(answer) == T24_DONE ? agrees(run) : refused(run, answer);
 }
 
-/* The refusals that need no trace, then its form, then its records. */
+/* The refusals that need no trace, then its form, then its records; but a state
+ * record of release 1 is turned before all. */
 static int replay_all(struct replay *run)
 {
-    const uint64_t answer = replay_piece(run, 0, 0);
+    uint64_t answer;
 
+    if (!turn_old(run))
+        return REFUSED;
+    answer = replay_piece(run, 0, 0);
     if (t24_number(answer) != T24_DONE)
         return refused(run, answer);
     if (run->trace.len == 0) {
+        print_turned(run);
         printf("nothing to replay: the trace has no record\n");
         return AGREES;
     }
@@ -227,6 +182,7 @@ static int replay_all(struct replay *run)
         return REFUSED;
     }
     memcpy(run->memory_before, run->memory.octets, run->memory.len);
+    print_turned(run);
     return play(run);
 }
 
@@ -275,8 +231,15 @@ static int explain(const struct call *call, char **words)
 int main(int argc, char **argv)
 {
     const struct call call = sort_words(argc, argv);
-    const int status = explain(&call, argv);
+    char words[128];
+    int status;
 
+    if (!t24_release_fits()) {
+        t24_release_words(words, sizeof words);
+        complain("libtype24.a", words);
+        return REFUSED;
+    }
+    status = explain(&call, argv);
     if (fflush(stdout) == 0)
         return status;
     complain("standard output", strerror(errno));

@@ -23,6 +23,19 @@ struct host {
     size_t l;
 };
 
+/* Asked before any other call: a host and an archive of two releases do not
+ * fit, and this says so in words. */
+static int same_release(void)
+{
+    char words[128];
+
+    if (t24_release_fits())
+        return 1;
+    t24_release_words(words, sizeof words);
+    fprintf(stderr, "oven: %s\n", words);
+    return 0;
+}
+
 /* Says in words what a call refused and why; tells 1 if it was done. */
 static int done(const struct host *host, const char *what, uint64_t answer)
 {
@@ -96,13 +109,16 @@ static int refused(const struct host *host, const char *name, uint32_t alarm,
     return 0;
 }
 
-/* Says why a cycle was lost: MN and SN, as expected and as sent. */
+/* Says why a cycle was lost, MN and SN as expected and as sent, and whether the
+ * sheet tolerates it: then the band runs on in step, and the command may go once
+ * more. */
 static int lost(const struct host *host, const char *name,
                 const uint8_t *before)
 {
     char words[256];
 
-    t24_watchdog_words(before, host->command, words, sizeof words);
+    t24_lost_words(host->sheet, host->sheet_len, before, host->command, words,
+                   sizeof words);
     fprintf(stderr, "%s not executed, a cycle was lost: %s\n", name, words);
     return 0;
 }
@@ -204,6 +220,8 @@ int main(int argc, char **argv)
     static struct host host;
     int good;
 
+    if (!same_release())
+        return 2;
     if (argc != 2) {
         fprintf(stderr, "usage: oven SHEET\n");
         return 2;

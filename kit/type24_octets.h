@@ -1,6 +1,7 @@
 /*
- * type24_octets.h - what stands at which octet of sheet, state record, command,
- * reply and trace.  Comes with type24.h, and has nothing but constants.
+ * type24_octets.h - lengths, and what stands at which octet of sheet, state
+ * record, command, reply and trace.  Comes with type24.h, and has nothing but
+ * constants.
  *
  * RULES is the page RULES.md, and its sections are named here.  Numbers of more
  * than one octet stand low octet first; places count from 0.
@@ -8,20 +9,36 @@
 #ifndef TYPE24_OCTETS_H
 #define TYPE24_OCTETS_H
 
+/* Lengths, in octets. */
+#define T24_L8 8 /* the five PDU lengths L */
+#define T24_L16 16
+#define T24_L32 32
+#define T24_L48 48
+#define T24_L64 64
+#define T24_L_MAX 64         /* no command or reply is longer */
+#define T24_STATE_LEN 11     /* every state record */
+#define T24_OLD_STATE_LEN 10 /* one of release 1, for t24_turn alone */
+#define T24_SHEET_MAX 2048   /* no accepted sheet is longer */
+#define T24_MEMORY_MAX 65536 /* no accepted sheet describes more memory */
+#define T24_TRACE_MAX 1073741823 /* no replayed trace is longer */
+
 /*
- * Sheet (RULES 3): an octet of kind and a body.  First one link
- * record, then regions, parameters and ID items, at last the end record.
+ * Sheet (RULES 3): an octet of kind and a body.  First one link record, then
+ * regions, parameters and ID items, then at most one tolerance record, at last
+ * the end record.
  */
 #define T24_RECORD_END 0x00
 #define T24_RECORD_LINK 0x01      /* L (1), version (1), profile (1) */
 #define T24_RECORD_REGION 0x02    /* start (4), length (4), rights (1) */
 #define T24_RECORD_PARAMETER 0x03 /* number (2), address (4), size (1) */
 #define T24_RECORD_ID 0x04        /* code (1), length (1), 32 octets */
+#define T24_RECORD_TOLERANCE 0x06 /* lost cycles in a row (1) */
 #define T24_RECORD_END_LEN 1 /* octets of a record, its kind among them */
 #define T24_RECORD_LINK_LEN 4
 #define T24_RECORD_REGION_LEN 10
 #define T24_RECORD_PARAMETER_LEN 8
 #define T24_RECORD_ID_LEN 35
+#define T24_RECORD_TOLERANCE_LEN 2
 
 #define T24_SHEET_AT_L 1 /* of the sheet: the link record is its first */
 #define T24_SHEET_AT_VERSION 2
@@ -35,6 +52,7 @@
 #define T24_ITEM_AT_CODE 1
 #define T24_ITEM_AT_LENGTH 2 /* 1 to T24_ITEM_OCTETS */
 #define T24_ITEM_AT_OCTETS 3 /* those past the length are zero */
+#define T24_TOLERANCE_AT_COUNT 1 /* 0 to T24_TOLERANCE_MAX */
 
 #define T24_RIGHT_READ 0x01 /* rights of a region (RULES 4.3) */
 #define T24_RIGHT_WRITE_ASYNC 0x02
@@ -45,8 +63,10 @@
 #define T24_ITEMS_MAX 32
 #define T24_PARAMETER_SIZE_MAX 56
 #define T24_ITEM_OCTETS 32
+#define T24_TOLERANCE_MAX 3
 
-/* State record (RULES 5.3; RULES 5.1): ten octets. */
+/* State record (RULES 5.3; RULES 5.1): eleven octets.  One of release 1 has the
+ * first ten of them, and another kind. */
 #define T24_AT_KIND 0 /* always T24_STATE_KIND */
 #define T24_AT_LINK 1
 #define T24_AT_L 2
@@ -57,7 +77,9 @@
 #define T24_AT_RSN 7
 #define T24_AT_COMMAND_ALARM 8       /* latched: 0, 8, 9, 10 or 12 */
 #define T24_AT_COMMUNICATION_ALARM 9 /* latched: 0 or 12 */
-#define T24_STATE_KIND 0x11
+#define T24_AT_FAILURES 10 /* lost cycles in a row; at most the sheet's */
+#define T24_STATE_KIND 0x12
+#define T24_OLD_STATE_KIND 0x11 /* of release 1, for t24_turn alone */
 #define T24_LINK_DISABLED 0
 #define T24_LINK_DISCONNECTED 1
 #define T24_LINK_ASYNC 2
@@ -97,16 +119,18 @@
  *   0     the code again
  *   1     RWDT: low half the command's MN, high half RSN, 0 to 15; 0 where the
  *         link afterwards is not SyncConnected
- *   2     T24_STATUS_ALWAYS, T24_STATUS_LATCHED while a latch is not 0, and the
- *         command's T24_IDENTITY, whether it was executed or not
+ *   2     T24_STATUS_ALWAYS, T24_STATUS_LATCHED while a latch is not 0,
+ *         T24_STATUS_TOLERATED if the cycle was lost and that is tolerated, and
+ *         the command's T24_IDENTITY, whether it was executed or not
  *   3     low half this command's alarm, high half the communication latch
- *   4..   the body named with the command; zeros if it was refused, and zero
- *         wherever nothing is named
+ *   4..   the body named with the command; zeros if it was refused or not
+ *         executed, and zero wherever nothing is named
  */
 #define T24_REPLY_AT_CODE 0
 #define T24_REPLY_AT_RWDT 1
 #define T24_REPLY_AT_STATUS 2
 #define T24_STATUS_LATCHED 0x01 /* of octet 2 */
+#define T24_STATUS_TOLERATED 0x02
 #define T24_STATUS_ALWAYS 0x04
 
 /*

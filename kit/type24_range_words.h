@@ -96,6 +96,11 @@ static inline int t24_say_range(struct t24_text *text,
             && t24_say_field(text, walk, ", size ", value, ": only 1 to 56");
     case T24_RECORD_ID:
         return t24_say_item(text, walk);
+    case T24_RECORD_TOLERANCE:
+        value = record[T24_TOLERANCE_AT_COUNT];
+        return value > T24_TOLERANCE_MAX
+            && t24_say_field(text, walk, ", lost cycles ", value,
+                             ": only 0 to 3");
     default:
         return 0;
     }

@@ -42,7 +42,31 @@ static inline int t24_say_kind(struct t24_text *text,
         return 0;
     t24_put(text, "kind ");
     t24_put_hex(text, walk->sheet[walk->at], 2);
-    t24_put(text, " is unknown: a record begins with 00 to 04");
+    t24_put(text, " is unknown: a record begins with 00 to 04 or 06");
+    return 1;
+}
+
+/* 13: a region, parameter or ID item behind what comes after its kind. */
+static inline int t24_say_late(struct t24_text *text,
+                               const struct t24_walk *walk)
+{
+    const uint8_t kind = walk->sheet[walk->at];
+    const int tolerance = walk->count[T24_RECORD_TOLERANCE] != 0;
+    const int items = walk->count[T24_RECORD_ID] != 0;
+    const int parameters = walk->count[T24_RECORD_PARAMETER] != 0;
+
+    if (tolerance && kind >= T24_RECORD_REGION && kind <= T24_RECORD_ID) {
+        t24_put_counted(text, walk);
+        t24_put(text, " after the tolerance record: that comes behind regions, "
+                      "parameters and ID items");
+    } else if ((kind == T24_RECORD_REGION && (items || parameters))
+               || (kind == T24_RECORD_PARAMETER && items)) {
+        t24_put_counted(text, walk);
+        t24_put(text, items ? " after an ID item: " : " after a parameter: ");
+        t24_put(text, "regions come first, then parameters, then ID items");
+    } else {
+        return 0;
+    }
     return 1;
 }
 
@@ -51,8 +75,7 @@ static inline int t24_say_place(struct t24_text *text,
                                 const struct t24_walk *walk)
 {
     const uint8_t kind = walk->sheet[walk->at];
-    const int items = walk->count[T24_RECORD_ID] != 0;
-    const int parameters = walk->count[T24_RECORD_PARAMETER] != 0;
+    const int tolerance = walk->count[T24_RECORD_TOLERANCE] != 0;
 
     if (walk->count[T24_RECORD_END] != 0) {
         t24_put_count(text, walk->sheet_len - walk->at, "octet");
@@ -63,13 +86,10 @@ static inline int t24_say_place(struct t24_text *text,
         t24_put(text, ", not with a link record, 01");
     } else if (walk->at != 0 && kind == T24_RECORD_LINK) {
         t24_put(text, "a second link record: it comes first and once");
-    } else if ((kind == T24_RECORD_REGION && (items || parameters))
-               || (kind == T24_RECORD_PARAMETER && items)) {
-        t24_put_counted(text, walk);
-        t24_put(text, items ? " after an ID item: " : " after a parameter: ");
-        t24_put(text, "regions come first, then parameters, then ID items");
+    } else if (tolerance && kind == T24_RECORD_TOLERANCE) {
+        t24_put(text, "a second tolerance record: it comes at most once");
     } else {
-        return 0;
+        return t24_say_late(text, walk);
     }
     return 1;
 }

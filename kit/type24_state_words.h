@@ -20,7 +20,10 @@ static inline const char *t24_link_words(uint32_t link)
     }
 }
 
-/* A state record's ten octets: "link 2 AsyncConnected, command latch 9, ..". */
+/*
+ * A state record: "link 2 AsyncConnected, command latch 9, ..".  Of one of
+ * release 1, by its kind, ten octets are read, and else eleven.
+ */
 static inline size_t t24_state_words(const uint8_t *state, char *text,
                                      size_t text_len)
 {
@@ -38,6 +41,12 @@ static inline size_t t24_state_words(const uint8_t *state, char *text,
         t24_put(&made, ", RSN ");
         t24_put_decimal(&made, state[T24_AT_RSN]);
     }
+    if (state[T24_AT_KIND] != T24_OLD_STATE_KIND
+        && state[T24_AT_FAILURES] != 0) {
+        t24_put(&made, ", ");
+        t24_put_count(&made, state[T24_AT_FAILURES], "lost cycle");
+        t24_put(&made, " in a row");
+    }
     t24_put(&made, ", command latch ");
     t24_put_decimal(&made, state[T24_AT_COMMAND_ALARM]);
     t24_put(&made, ", communication latch ");
@@ -45,14 +54,12 @@ static inline size_t t24_state_words(const uint8_t *state, char *text,
     return t24_text_end(&made);
 }
 
-/* The first field that is out of its own range, or NULL. */
+/* The first field behind the kind that is out of its own range, or NULL. */
 static inline const char *t24_state_range_words(const uint8_t *state, size_t l)
 {
     const uint8_t command = state[T24_AT_COMMAND_ALARM];
     const uint8_t communication = state[T24_AT_COMMUNICATION_ALARM];
 
-    if (state[T24_AT_KIND] != T24_STATE_KIND)
-        return "octet 0 is not 11 hex";
     if (state[T24_AT_LINK] > T24_LINK_SYNC)
         return "octet 1, the link, is not 0 to 3";
     if (state[T24_AT_L] != l)
@@ -99,17 +106,70 @@ static inline const char *t24_state_link_words(const uint8_t *state)
     return NULL;
 }
 
-/* Why a state record is not valid under a sheet of this L; "valid" if it is. */
+/* The first of the ten fields that release 1 has too that is wrong, or NULL. */
+static inline const char *t24_state_field_words(const uint8_t *state, size_t l)
+{
+    const char *words = t24_state_range_words(state, l);
+
+    return words != NULL ? words : t24_state_link_words(state);
+}
+
+/* What is wrong with the lost cycles in a row, or NULL. */
+static inline const char *t24_state_row_words(const uint8_t *state,
+                                              uint32_t tolerance)
+{
+    const uint8_t failures = state[T24_AT_FAILURES];
+
+    if (failures > tolerance)
+        return "octet 10, lost cycles in a row, is more than the sheet "
+               "tolerates";
+    if (failures != 0 && state[T24_AT_LINK] != T24_LINK_SYNC)
+        return "octet 10, lost cycles in a row, is not 0 outside link 3";
+    if (failures != 0 && state[T24_AT_MN_KNOWN] == 0)
+        return "octet 10, lost cycles in a row, is not 0 while MN is not known";
+    return NULL;
+}
+
+/*
+ * Why a state record is not valid under a sheet of this L that tolerates so
+ * many lost cycles in a row, see t24_tolerance(); "valid" if it is.
+ */
 static inline const char *t24_state_fault_words(const uint8_t *state,
-                                                size_t state_len, size_t l)
+                                                size_t state_len, size_t l,
+                                                uint32_t tolerance)
 {
     const char *words;
 
+    if (state_len == T24_OLD_STATE_LEN
+        && state[T24_AT_KIND] == T24_OLD_STATE_KIND)
+        return "it is of release 1, 10 octets of kind 11: t24_turn makes it new";
     if (state_len != T24_STATE_LEN)
-        return "it has not 10 octets";
-    words = t24_state_range_words(state, l);
+        return "it has not 11 octets";
+    if (state[T24_AT_KIND] != T24_STATE_KIND)
+        return "octet 0 is not 12 hex";
+    words = t24_state_field_words(state, l);
     if (words == NULL)
-        words = t24_state_link_words(state);
+        words = t24_state_row_words(state, tolerance);
+    return words == NULL ? "valid" : words;
+}
+
+/*
+ * Why t24_turn does not take an old record, or the length of the new one, under
+ * a sheet of this L; "valid" if it does.
+ */
+static inline const char *t24_turn_fault_words(const uint8_t *old,
+                                               size_t old_len,
+                                               size_t state_len, size_t l)
+{
+    const char *words;
+
+    if (old_len != T24_OLD_STATE_LEN)
+        return "the old record has not 10 octets";
+    if (old[T24_AT_KIND] != T24_OLD_STATE_KIND)
+        return "octet 0 is not 11 hex";
+    words = t24_state_field_words(old, l);
+    if (words == NULL && state_len != T24_STATE_LEN)
+        words = "the new record has not 11 octets";
     return words == NULL ? "valid" : words;
 }
 

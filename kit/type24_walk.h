@@ -6,6 +6,7 @@
 #define TYPE24_WALK_H
 
 #include "type24_octets.h"
+#include "type24_records.h"
 #include "type24_text.h"
 
 /* A number of so many octets, low octet first. */
@@ -18,27 +19,16 @@ static inline uint64_t t24_low_first(const uint8_t *octets, size_t count)
     return number;
 }
 
-/* The octets of a record, its kind among them; 0 for an unknown kind. */
-static inline size_t t24_record_len(uint8_t kind)
-{
-    switch (kind) {
-    case T24_RECORD_END: return T24_RECORD_END_LEN;
-    case T24_RECORD_LINK: return T24_RECORD_LINK_LEN;
-    case T24_RECORD_REGION: return T24_RECORD_REGION_LEN;
-    case T24_RECORD_PARAMETER: return T24_RECORD_PARAMETER_LEN;
-    case T24_RECORD_ID: return T24_RECORD_ID_LEN;
-    default: return 0;
-    }
-}
+#define T24_KINDS (T24_RECORD_TOLERANCE + 1) /* known kinds are below this */
 
 /* What stands before a place of a sheet. */
 struct t24_walk {
     const uint8_t *sheet;
     size_t sheet_len;
-    size_t at;         /* behind the last whole record before the place */
-    uint32_t count[5]; /* the records before it, by kind */
-    size_t last[5];    /* where the last of each kind begins */
-    uint64_t memory;   /* the sum of the regions' lengths */
+    size_t at;                 /* behind the last whole record before it */
+    uint32_t count[T24_KINDS]; /* the records before it, by kind */
+    size_t last[T24_KINDS];    /* where the last of each kind begins */
+    uint64_t memory;           /* the sum of the regions' lengths */
 };
 
 /* The next record; tells 0 if none stands whole there, or behind the end. */
@@ -67,8 +57,8 @@ static inline int t24_walk_on(struct t24_walk *walk)
 static inline struct t24_walk t24_walk_to(const uint8_t *sheet,
                                           size_t sheet_len, size_t place)
 {
-    struct t24_walk walk = { sheet, sheet_len, 0, { 0, 0, 0, 0, 0 },
-                             { 0, 0, 0, 0, 0 }, 0 };
+    struct t24_walk walk = { sheet, sheet_len, 0, { 0, 0, 0, 0, 0, 0, 0 },
+                             { 0, 0, 0, 0, 0, 0, 0 }, 0 };
 
     while (walk.at < place && t24_walk_on(&walk))
         continue;
@@ -84,6 +74,7 @@ static inline const char *t24_kind_words(uint8_t kind)
     case T24_RECORD_REGION: return " region";
     case T24_RECORD_PARAMETER: return " parameter";
     case T24_RECORD_ID: return " ID item";
+    case T24_RECORD_TOLERANCE: return " tolerance record";
     default: return " record";
     }
 }
@@ -148,6 +139,8 @@ static inline void t24_put_counted(struct t24_text *text,
         t24_put_decimal(text, walk->count[kind] + 1);
     } else if (kind == T24_RECORD_LINK) {
         t24_put(text, "link record");
+    } else if (kind == T24_RECORD_TOLERANCE) {
+        t24_put(text, "tolerance record");
     } else {
         t24_put_ordinal(text, walk->count[kind] + 1);
         t24_put(text, t24_kind_words(kind));
@@ -188,6 +181,12 @@ static inline void t24_put_contents(struct t24_text *text,
     t24_put_count(text, walk->count[T24_RECORD_PARAMETER], "parameter");
     t24_put(text, ", ");
     t24_put_count(text, walk->count[T24_RECORD_ID], "ID item");
+    if (walk->count[T24_RECORD_TOLERANCE] != 0) {
+        t24_put(text, ", tolerates ");
+        t24_put_count(text, t24_tolerance(walk->sheet, walk->sheet_len),
+                      "lost cycle");
+        t24_put(text, " in a row");
+    }
 }
 
 #endif

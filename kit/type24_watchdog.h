@@ -9,15 +9,18 @@
 #ifndef TYPE24_WATCHDOG_H
 #define TYPE24_WATCHDOG_H
 
+#include <stddef.h>
 #include <stdint.h>
 
 #include "type24_octets.h"
+#include "type24_records.h"
 
 /*
  * For a host that plays the master: the next command's WDT, by the last reply:
- * its RSN as SN, and its MN + 1, modulo 16, as MN.  Out of step, and in the
- * first command behind the one that enters SyncConnected, any WDT is taken, so
- * this one too; before there is a reply, octets of zero will do for one.
+ * its RSN as SN, and its MN + 1, modulo 16, as MN; behind a tolerated lost cycle
+ * too.  Out of step, and in the first command behind the one that enters
+ * SyncConnected, any WDT is taken, so this one too; before there is a reply,
+ * octets of zero will do for one.
  */
 static inline uint8_t t24_next_wdt(const uint8_t *reply)
 {
@@ -58,7 +61,8 @@ static inline int t24_watchdog_asks(const uint8_t *state)
 /*
  * Whether this command's cycle is a lost one, so that it is not executed, by
  * the valid state record before the exchange, which changes it: a host keeps a
- * copy.  t24_watchdog_words() in type24_words.h says what was expected.
+ * copy.  t24_lost_words() in type24_words.h says what was expected, and what
+ * comes of it.
  */
 static inline int t24_watchdog_fails(const uint8_t *state,
                                      const uint8_t *command)
@@ -66,6 +70,17 @@ static inline int t24_watchdog_fails(const uint8_t *state,
     return t24_watchdog_asks(state)
         && (t24_mn(command) != t24_expected_mn(state)
             || t24_sn(command) != t24_expected_sn(state));
+}
+
+/*
+ * Whether a lost cycle is tolerated now, by the same record: there were fewer in
+ * a row than the sheet allows.  Then link and latches stay and the counts go on;
+ * else SyncConnected is left.  The reply tells it too: t24_reply_tolerated().
+ */
+static inline int t24_watchdog_tolerates(const uint8_t *sheet, size_t sheet_len,
+                                         const uint8_t *state)
+{
+    return state[T24_AT_FAILURES] < t24_tolerance(sheet, sheet_len);
 }
 
 #endif

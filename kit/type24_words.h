@@ -1,7 +1,8 @@
 /*
  * type24_words.h - what a fitter wants to read, in words: why a call refused,
  * the fault of a sheet or a trace, a command, which octet of it was wrong, why a
- * cycle was lost, a status, a state record, an octet of a reply.
+ * cycle was lost and whether that is tolerated, a status, a state record, an
+ * octet of a reply.
  *
  * A host includes this header where it wants them; type24.h comes with it, and
  * nothing of the C library is needed.  Functions with text and text_len write
@@ -11,15 +12,19 @@
  *   t24_sheet_words        an answer about a sheet     type24_sheet_words.h
  *   t24_state_words        a state record              type24_state_words.h
  *   t24_state_fault_words  why T24_BAD_STATE           type24_state_words.h
+ *   t24_turn_fault_words   why, of t24_turn            type24_state_words.h
  *   t24_command_words      a command                   type24_pdu_words.h
  *   t24_octet_words        an octet of a reply         type24_pdu_words.h
  *   t24_reply_octet_words  executed or not             type24_pdu_words.h
  *   t24_field_words        a refused command's field   type24_field_words.h
  *   t24_refused_command_words  why it was refused      type24_field_words.h
  *   t24_watchdog_words     why a cycle was lost        type24_watchdog_words.h
+ *   t24_lost_words         and what comes of it        type24_watchdog_words.h
+ *   t24_release_words      releases that do not fit    type24_release_words.h
  *   t24_status_words       a reply's status            here
  *   t24_trace_words        an answer of t24_replay     here
- *   t24_refusal_words      an answer of any call       here
+ *   t24_refusal_words      an answer of any other call here
+ *   t24_turn_words         an answer of t24_turn       here
  */
 #ifndef TYPE24_WORDS_H
 #define TYPE24_WORDS_H
@@ -27,16 +32,35 @@
 #include "type24.h"
 #include "type24_field_words.h"
 #include "type24_pdu_words.h"
+#include "type24_release_words.h"
 #include "type24_sheet_words.h"
 #include "type24_state_words.h"
 #include "type24_text.h"
 #include "type24_watchdog_words.h"
 
+/* Whether the command was executed, as far as a status tells, and its alarm. */
+static inline void t24_put_alarm(struct t24_text *text, uint32_t alarm,
+                                 uint32_t latch, int tolerated)
+{
+    if (alarm == T24_ALARM_NONE && tolerated) {
+        t24_put(text, "not executed, a lost cycle was tolerated");
+    } else if (alarm == T24_ALARM_NONE && latch == T24_ALARM_NONE) {
+        t24_put(text, "accepted");
+    } else {
+        t24_put(text, "alarm ");
+        t24_put_decimal(text, alarm);
+        t24_put(text, ", ");
+        t24_put(text, alarm == 0 ? "none" : t24_alarm_words(alarm));
+        if (tolerated)
+            t24_put(text, "; a lost cycle was tolerated");
+    }
+}
+
 /*
  * The status of a reply (RULES 6.2 and 6.3), of which octets 2 and 3 are
- * read.  Without an alarm it is "accepted", but not while the communication
- * latch is set: the command may be the one that was not executed.  The
- * identity is told where it is not 0.
+ * read.  Without an alarm it is "accepted", but not where a lost cycle was
+ * tolerated, and not while the communication latch is set: the command may be
+ * the one that was not executed.  The identity is told where it is not 0.
  */
 static inline size_t t24_status_words(const uint8_t *reply, char *text,
                                       size_t text_len)
@@ -46,14 +70,7 @@ static inline size_t t24_status_words(const uint8_t *reply, char *text,
     const uint8_t low = reply[T24_REPLY_AT_STATUS];
     struct t24_text made = t24_text_in(text, text_len);
 
-    if (alarm == T24_ALARM_NONE && latch == T24_ALARM_NONE) {
-        t24_put(&made, "accepted");
-    } else {
-        t24_put(&made, "alarm ");
-        t24_put_decimal(&made, alarm);
-        t24_put(&made, ", ");
-        t24_put(&made, alarm == 0 ? "none" : t24_alarm_words(alarm));
-    }
+    t24_put_alarm(&made, alarm, latch, t24_reply_tolerated(reply));
     if (latch != T24_ALARM_NONE) {
         t24_put(&made, "; communication latch ");
         t24_put_decimal(&made, latch);
@@ -65,8 +82,8 @@ static inline size_t t24_status_words(const uint8_t *reply, char *text,
     t24_put_identity(&made, "; identity ", t24_reply_identity(reply));
     if ((low & T24_STATUS_ALWAYS) == 0)
         t24_put(&made, "; bit 2 is 0, must be 1");
-    if ((low & ~(T24_STATUS_LATCHED | T24_STATUS_ALWAYS | T24_IDENTITY)) != 0)
-        t24_put(&made, "; bits 1 and 3 to 5 are not 0");
+    if ((low & 0x38u) != 0)
+        t24_put(&made, "; bits 3 to 5 are not 0");
     return t24_text_end(&made);
 }
 
@@ -159,11 +176,12 @@ static inline void t24_put_misfit(struct t24_text *text, uint32_t number,
 }
 
 /*
- * An answer of any call in words, by what the call was lent: for 1 "1: state
- * record of wrong length or not valid: octet 2, L, is not the sheet's", for 2
- * "2: memory length is not the sum of the regions: 7, not 8", for 11 to 17 as
- * t24_sheet_words, for 31 to 35 as t24_trace_words, for others the number and
- * t24_words().  What the call was not lent has length 0, and may be NULL.
+ * An answer of any call but t24_turn in words, by what the call was lent: for 1
+ * "1: state record of wrong length or not valid: octet 2, L, is not the
+ * sheet's", for 2 "2: memory length is not the sum of the regions: 7, not 8",
+ * for 11 to 17 as t24_sheet_words, for 31 to 35 as t24_trace_words, for others
+ * the number and t24_words().  What the call was not lent has length 0, and may
+ * be NULL.
  */
 static inline size_t t24_refusal_words(const uint8_t *sheet, size_t sheet_len,
                                        const uint8_t *state, size_t state_len,
@@ -185,8 +203,33 @@ static inline size_t t24_refusal_words(const uint8_t *sheet, size_t sheet_len,
     t24_put(&made, ": ");
     t24_put(&made, t24_words(number));
     t24_put_misfit(&made, number,
-                   t24_state_fault_words(state, state_len, t24_l(lengths)),
+                   t24_state_fault_words(state, state_len, t24_l(lengths),
+                                         t24_tolerance(sheet, sheet_len)),
                    memory_len, t24_memory(lengths));
+    return t24_text_end(&made);
+}
+
+/*
+ * An answer of t24_turn in words, by what it was lent: for 1 "1: state record of
+ * wrong length or not valid: the old record has not 10 octets", for others as
+ * t24_sheet_words.
+ */
+static inline size_t t24_turn_words(const uint8_t *sheet, size_t sheet_len,
+                                    const uint8_t *old, size_t old_len,
+                                    size_t state_len, uint64_t answer,
+                                    char *text, size_t text_len)
+{
+    const uint32_t number = t24_number(answer);
+    const size_t l = t24_l(t24_lengths(sheet, sheet_len));
+    struct t24_text made = t24_text_in(text, text_len);
+
+    if (number != T24_BAD_STATE)
+        return t24_sheet_words(sheet, sheet_len, answer, text, text_len);
+    t24_put_decimal(&made, number);
+    t24_put(&made, ": ");
+    t24_put(&made, t24_words(number));
+    t24_put_misfit(&made, number,
+                   t24_turn_fault_words(old, old_len, state_len, l), 0, 0);
     return t24_text_end(&made);
 }
 

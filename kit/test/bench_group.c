@@ -102,8 +102,8 @@ static void give_link(const uint8_t *state)
 
 static void case_9(void)
 {
-    static const uint8_t link1[10] = { 0x11, 1, 0x10, 0, 0, 0, 0, 0, 0, 0 };
-    static const uint8_t dual[10] = { 0x11, 3, 0x10, 1, 2, 0, 0, 0, 0, 0 };
+    static const uint8_t link1[11] = { 0x12, 1, 0x10, 0, 0, 0, 0, 0, 0, 0, 0 };
+    static const uint8_t dual[11] = { 0x12, 3, 0x10, 1, 2, 0, 0, 0, 0, 0, 0 };
     static const pdu time1 = { 0x0E, 0, 0, 0, 0x30, 6, 1, 0 };
     static const pdu time2 = { 0x0E, 0, 0, 0, 0x30, 6, 2, 0 };
     static const pdu time2_reply = { 0x0E, 0, 4, 0, 0x30, 6, 2, 0 };
@@ -119,10 +119,10 @@ static void case_9(void)
 
 static void case_10(void)
 {
-    static const uint8_t last15[10] = { 0x11, 3, 0x10, 0, 1, 1, 15, 5, 0, 0 };
-    static const uint8_t after0[10] = { 0x11, 3, 0x10, 0, 1, 1, 0, 6, 0, 0 };
-    static const uint8_t last3[10] = { 0x11, 3, 0x10, 0, 1, 1, 3, 5, 0, 0 };
-    static const uint8_t dropped[10] = { 0x11, 2, 0x10, 0, 1, 0, 0, 0, 0, 12 };
+    static const uint8_t last15[11] = { 0x12, 3, 16, 0, 1, 1, 15, 5, 0, 0, 0 };
+    static const uint8_t after0[11] = { 0x12, 3, 0x10, 0, 1, 1, 0, 6, 0, 0, 0 };
+    static const uint8_t last3[11] = { 0x12, 3, 0x10, 0, 1, 1, 3, 5, 0, 0, 0 };
+    static const uint8_t dropped[11] = { 0x12, 2, 16, 0, 1, 0, 0, 0, 0, 12, 0 };
     static const pdu mn0 = { 0x00, 0x50 }, mn3 = { 0x00, 0x53 }; /* SN is RSN */
     static const pdu mn0_reply = { 0x00, 0x60, 4, 0 };
 
@@ -171,9 +171,9 @@ void bench_cases(void)
 /* Reset, enable, zero memory, then the bench's two commands and replies. */
 void bench_program(void)
 {
-    static const uint8_t disabled[10] = { 0x11, 0, 0x10 };
-    static const uint8_t enabled[10] = { 0x11, 1, 0x10 };
-    static const uint8_t connected[10] = { 0x11, 2, 0x10, 0, 1 };
+    static const uint8_t disabled[11] = { 0x12, 0, 0x10 };
+    static const uint8_t enabled[11] = { 0x12, 1, 0x10 };
+    static const uint8_t connected[11] = { 0x12, 2, 0x10, 0, 1 };
     static const pdu nop = { 0 }, nop_reply = { 0x00, 0x00, 0x04, 0x00 };
     static const pdu connect = { 0x0E, 0, 0, 0, 0x30, 0, 1, 0 };
     static const pdu connect_reply = { 0x0E, 0, 4, 0, 0x30, 0, 1, 0 };

@@ -25,7 +25,7 @@ static void give_sheet(void)
 
 static void give_state(unsigned link)
 {
-    uint8_t state[T24_STATE_LEN] = { 0x11, 0, 0, 0, 0, 0, 0, 0, 9, 12 };
+    uint8_t state[T24_STATE_LEN] = { 0x12, 0, 0, 0, 0, 0, 0, 0, 9, 12, 0 };
 
     state[T24_AT_LINK] = (uint8_t)link;
     state[T24_AT_L] = (uint8_t)l;

@@ -7,14 +7,15 @@ void all_numbers_met(void)
         0, 1, 2, 3, 4, 5, 6, 11, 12, 13, 14, 15, 16, 17, 31, 32, 33, 34, 35
     };
     /* By call: sheet, lengths (which answers lengths), reset, enable,
-     * exchange, replay. */
+     * exchange, replay, turn. */
     static const char *const can[] = {
         "x......xxxxxxx.....", "...................", "xx.....xxxxxxx.....",
-        "xx....xxxxxxxx.....", "xxxxxx.xxxxxxx.....", "xxx..x.xxxxxxxxxxxx"
+        "xx....xxxxxxxx.....", "xxxxxx.xxxxxxx.....", "xxx..x.xxxxxxxxxxxx",
+        "xx.....xxxxxxx....."
     };
     int which, i;
 
-    for (which = ASK_SHEET; which <= ASK_REPLAY; which++)
+    for (which = ASK_SHEET; which <= ASK_TURN; which++)
         for (i = 0; i < 19 && which != ASK_LENGTHS; i++) {
             label("number", (long)numbers[i]);
             check((met((enum which)which, numbers[i]) > 0)

@@ -10,10 +10,10 @@ hex() {
 make_slaves() {
     hex sheet.bin "01103000 02001000000400000003 02041000000400000006 0307000210000002 00"
     hex rights.bin "01103000 02001000000400000009 00"
-    hex state.bin 11021000010000000000
-    hex latched.bin 11021000010000000900
-    hex disabled.bin 11001000000000000000
-    hex in-step.bin 11031000010103050000 # last MN 3, RSN 5
+    hex state.bin 1202100001000000000000
+    hex latched.bin 1202100001000000090000
+    hex disabled.bin 1200100000000000000000
+    hex in-step.bin 1203100001010305000000 # last MN 3, RSN 5
     cp sheet.bin ./-sheet.bin
     hex short.bin 110210
     hex memory.bin 0A0BAABB0E0F1011
@@ -161,7 +161,7 @@ refused_trace() {
 explain_refusals() {
     refused_trace "rights.bin: 14 at octet 4: region 1, rights 09: only bits 0 to 2 may be set" \
         rights.bin short.bin empty.bin bad-kind.bin
-    refused_trace "short.bin: 1: state record of wrong length or not valid: it has not 10 octets" \
+    refused_trace "short.bin: 1: state record of wrong length or not valid: it has not 11 octets" \
         sheet.bin short.bin memory.bin agree.bin
     refused_trace "disabled.bin: 5: exchange or replay while Disabled: octet 1 of the state record, the link, is 0" \
         sheet.bin disabled.bin memory.bin empty.bin
@@ -236,11 +236,13 @@ explain_all() {
     explain_agreement
     explain_differences
     explain_bodies
+    explain_tolerated
+    explain_turned
     explain_refused
     explain_refusals
     explain_usage
     explain_streams
-    echo "sheets, agreement, differences, bodies, refused commands, refusals, usage, streams: ok"
+    echo "sheets, agreement, differences, bodies, tolerated, turned, refused commands, refusals, usage, streams: ok"
 }
 
 test_explain() {
@@ -249,6 +251,7 @@ test_explain() {
     make_slaves
     make_traces
     make_refused_traces
+    make_tolerated
     cd "$kit/test"
     explain_all "as installed" "run $dist/x86_64/libexec/t24-explain"
     $CPP "$dist/example/explain.c" $LIB -o "$work/t24-explain"

@@ -10,7 +10,8 @@ static const unsigned numbers[] = {
 /* Literal octets stand here on purpose: a slip in the header must show. */
 static const unsigned pair[][2] = {
     { T24_L8, 8 }, { T24_L16, 16 }, { T24_L32, 32 }, { T24_L48, 48 },
-    { T24_L64, 64 }, { T24_L_MAX, 64 }, { T24_STATE_LEN, 10 },
+    { T24_L64, 64 }, { T24_L_MAX, 64 }, { T24_STATE_LEN, 11 },
+    { T24_OLD_STATE_LEN, 10 }, { T24_RELEASE, 2 },
     { T24_SHEET_MAX, 2048 }, { T24_MEMORY_MAX, 65536 },
     { T24_DONE, 0 }, { T24_BAD_STATE, 1 }, { T24_BAD_MEMORY, 2 },
     { T24_BAD_COMMAND, 3 }, { T24_BAD_REPLY, 4 }, { T24_IS_DISABLED, 5 },
@@ -28,11 +29,15 @@ static const unsigned pair[][2] = {
     { T24_ALARM_RIGHTS, 10 }, { T24_ALARM_LINK, 12 },
     { T24_ALARM_COMMUNICATION, 12 }, { T24_LINK_DISABLED, 0 },
     { T24_LINK_DISCONNECTED, 1 }, { T24_LINK_ASYNC, 2 },
-    { T24_LINK_SYNC, 3 }, { T24_STATE_KIND, 0x11 }, { T24_AT_KIND, 0 },
+    { T24_LINK_SYNC, 3 }, { T24_STATE_KIND, 0x12 },
+    { T24_OLD_STATE_KIND, 0x11 }, { T24_AT_KIND, 0 },
     { T24_AT_LINK, 1 }, { T24_AT_L, 2 }, { T24_AT_DUAL, 3 },
     { T24_AT_COM_TIME, 4 }, { T24_AT_MN_KNOWN, 5 }, { T24_AT_LAST_MN, 6 },
     { T24_AT_RSN, 7 }, { T24_AT_COMMAND_ALARM, 8 },
-    { T24_AT_COMMUNICATION_ALARM, 9 }, { T24_RECORD_END, 0 },
+    { T24_AT_COMMUNICATION_ALARM, 9 }, { T24_AT_FAILURES, 10 },
+    { T24_RECORD_END, 0 }, { T24_RECORD_TOLERANCE, 6 },
+    { T24_RECORD_TOLERANCE_LEN, 2 }, { T24_TOLERANCE_AT_COUNT, 1 },
+    { T24_TOLERANCE_MAX, 3 }, { T24_STATUS_TOLERATED, 2 },
     { T24_RECORD_LINK, 1 }, { T24_RECORD_REGION, 2 },
     { T24_RECORD_PARAMETER, 3 }, { T24_RECORD_ID, 4 },
     { T24_RIGHT_READ, 1 }, { T24_RIGHT_WRITE_ASYNC, 2 },
@@ -76,6 +81,14 @@ void header_constants(void)
     }
 }
 
+/* The archive that is tested is the header's own; the version begins with it. */
+void header_release(void)
+{
+    check(t24_version() == 2, "release of the archive");
+    check(t24_release_fits(), "archive and header");
+    check(strncmp(T24_VERSION, "2.", 2) == 0, "version and release");
+}
+
 static void answers_taken_apart(void)
 {
     const uint64_t answer = ((uint64_t)0xFEDCBA98u << 32) + 0x76543210u;
@@ -94,6 +107,7 @@ static void answers_taken_apart(void)
     for (identity = 0; identity < 4; identity++) {
         reply[2] = low[identity];
         check(t24_reply_identity(reply) == identity, "identity of a reply");
+        check(t24_reply_tolerated(reply) == (identity == 0), "bit 1 of a reply");
     }
 }
 

@@ -16,7 +16,7 @@ static void give_sheet_octets(const struct built *sheet)
 /* In link 3 the exchange is the first there, with MN 0. */
 static void start(unsigned link, const uint8_t *command)
 {
-    uint8_t state[T24_STATE_LEN] = { 0x11, 0, 0, 0, 1, 0, 0, 0, 0, 0 };
+    uint8_t state[T24_STATE_LEN] = { 0x12, 0, 0, 0, 1, 0, 0, 0, 0, 0, 0 };
 
     state[T24_AT_LINK] = (uint8_t)link;
     state[T24_AT_L] = (uint8_t)l;

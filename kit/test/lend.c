@@ -15,12 +15,12 @@ static struct {
 } lent[ROLES];
 
 static long calls, failures;
-static long answers[ASK_REPLAY + 1][NUMBERS];
+static long answers[ASK_TURN + 1][NUMBERS];
 static const char *group_name = "", *label_text = "";
 static long label_number;
 
 static const char *const role_name[ROLES] = {
-    "sheet", "state", "memory", "command", "reply", "trace"
+    "sheet", "state", "memory", "command", "reply", "trace", "old record"
 };
 
 void lend_open(void)
@@ -98,6 +98,10 @@ static uint64_t ask(enum which which)
                           lent[STATE].at, lent[STATE].len,
                           lent[MEMORY].at, lent[MEMORY].len,
                           lent[TRACE].at, lent[TRACE].len);
+    case ASK_TURN:
+        return t24_turn(lent[SHEET].at, lent[SHEET].len,
+                        lent[OLD].at, lent[OLD].len,
+                        lent[STATE].at, lent[STATE].len);
     default:
         return t24_exchange(lent[SHEET].at, lent[SHEET].len,
                             lent[STATE].at, lent[STATE].len,

@@ -21,6 +21,8 @@ make_sheets() {
     octets 01 10 30 00 02 00 10 00 00 01 00 00 00 07 \
         02 01 10 00 00 01 00 00 00 05 00 >"$work/second.bin"
     octets 01 10 30 00 02 01 10 00 00 04 00 00 00 07 00 >"$work/unmapped.bin"
+    octets 01 10 30 00 02 00 10 00 00 08 00 00 00 07 06 01 00 >"$work/tolerant.bin" # one lost cycle in a row
+    octets 01 10 30 00 02 00 10 00 00 08 00 00 00 07 06 04 00 >"$work/tolerance.bin"
     cat >"$work/p.want" <<'END'
 L 16, memory 8 octets
 CONNECT    0E000400300001000000000000000000
@@ -67,6 +69,7 @@ test_oven() {
         || fail "oven with the example's sheet"
     refused_with cut.bin "sheet refused: 11 at octet 32: no end record"
     refused_with rights.bin "sheet refused: 14 at octet 4: region 1, rights 09: only bits 0 to 2 may be set"
+    refused_with tolerance.bin "sheet refused: 14 at octet 14: tolerance record, lost cycles 4: only 0 to 3"
     refused_with folder "oven: $work/folder: Is a directory"
     refused_with none.bin "oven: $work/none.bin: No such file or directory"
     refused_with bare.bin "MEM_RD refused: alarm 9 at octet 6, count: 0, or with its element more than L - 12 octets"
@@ -77,12 +80,12 @@ test_oven() {
     test_pkg_config
 }
 
-# deaf NAME EDIT WORDS: a host with this edit in its WDT is told why its cycle was lost.
+# deaf NAME EDIT WORDS [SHEET]: a host with this edit in its WDT is told why its cycle was lost.
 deaf() {
     sed "s/t24_next_wdt(host->reply)/$2/" "$dist/example/oven.c" >"$work/deaf.c"
     ! cmp -s "$dist/example/oven.c" "$work/deaf.c" || fail "no edit: $1"
     $HAND -static "$work/deaf.c" $HAND_LIB -o "$work/deaf"
-    must_fail "$1" "$3" hand "$work/deaf" "$work/p.bin"
+    must_fail "$1" "$3" hand "$work/deaf" "$work/${4:-p.bin}"
 }
 
 # The second command behind CONNECT in step is the first that the watchdog asks.
@@ -91,6 +94,33 @@ test_lost_cycles() {
         "^MEM_RD not executed, a cycle was lost: MN 1 expected, 0 seen; SN 1 expected, 1 seen$"
     deaf "a master that does not read the replies" "t24_next_wdt(host->reply) \& 0x0F" \
         "^MEM_RD not executed, a cycle was lost: MN 3 expected, 3 seen; SN 1 expected, 0 seen$"
+    test_tolerated
+}
+
+# The same masters on a sheet that tolerates one: the first is told as tolerated, with its reply in step, the second leaves link 3.
+test_tolerated() {
+    deaf "a master that does not count, tolerated" 0x10 \
+        "^MEM_RD not executed, a cycle was lost: tolerated, 1 of 1 in a row: MN 1 expected, 0 seen; SN 1 expected, 1 seen$" tolerant.bin
+    deaf "a master that does not count, twice" 0x10 \
+        "^MEM_RD not executed, a cycle was lost: the 2nd in a row, 1 is tolerated: MN 1 expected, 0 seen; SN 2 expected, 1 seen$" tolerant.bin
+    grep -qx "MEM_RD     1D200600000000000000000000000000" "$work/out" || fail "the reply of a tolerated cycle"
+    grep -qx "MEM_RD     1D0005C0000000000000000000000000" "$work/out" || fail "the reply of one more"
+    # One reply is missed: the next command follows the reply that tells it, and the band runs on.
+    sed 's/^        memory_command(host, T24_MEM_RD, 0x1000);/&\n        host->command[1] ^= cycle == 1 ? 0x80 : 0;/' \
+        "$dist/example/oven.c" >"$work/missed.c"
+    ! cmp -s "$dist/example/oven.c" "$work/missed.c" || fail "no edit: a missed reply"
+    $HAND -static "$work/missed.c" $HAND_LIB -o "$work/missed"
+    must_fail "a reply that was missed" "^MEM_RD not executed, a cycle was lost: tolerated, 1 of 1 in a row: MN 3 expected, 3 seen; SN 1 expected, 9 seen$" \
+        hand "$work/missed" "$work/tolerant.bin"
+    sed -n '/^CONNECT    0E01/,$p' "$work/out" >"$work/band"
+    cat >"$work/want" <<'END'
+CONNECT    0E010400300201000000000000000000
+MEM_RD     1D1204000021010000100000B4000000
+MEM_RD     1D230600000000000000000000000000
+MEM_RD     1D3404000021010000100000B4000000
+DISCONNECT 0F000400000000000000000000000000
+END
+    grep -v "not executed" "$work/band" | diff "$work/want" - || fail "the band does not run on"
 }
 
 test_pkg_config() {

@@ -24,7 +24,7 @@ static void give_sheet(const uint8_t rights[3], unsigned address)
 
 static void start(unsigned link, unsigned code)
 {
-    uint8_t state[T24_STATE_LEN] = { 0x11, 0, 16, 0, 1, 0, 0, 0, 0, 0 };
+    uint8_t state[T24_STATE_LEN] = { 0x12, 0, 16, 0, 1, 0, 0, 0, 0, 0, 0 };
     uint8_t command[16] = { 0, 0, 0, 0, 7, 0, SIZE, 0, 0xA1, 0xA2, 0xA3, 0xA4 };
 
     state[T24_AT_LINK] = (uint8_t)link;

@@ -116,4 +116,5 @@ void place_lock(int locked)
     protect(SHEET, protection);
     protect(COMMAND, protection);
     protect(TRACE, protection);
+    protect(OLD, protection);
 }

@@ -76,7 +76,7 @@ static void mixtures_of_reset_and_enable(unsigned l, int sheet)
             expect(ASK_ENABLE, fault);
             fault = give_sheet(l, sheet);
             give_state(l, link, state);
-            if (fault == T24_DONE && state >= 1 && state <= 3)
+            if (fault == T24_DONE && given_len(STATE) != T24_STATE_LEN)
                 fault = T24_BAD_STATE; /* reset minds the length alone */
             if (fault == T24_DONE) {
                 memset(wanted(STATE), 0, T24_STATE_LEN);
@@ -199,18 +199,23 @@ void refusal_empty(void)
           == T24_SHEET_CUT, "all null");
     check(t24_exchange(bare, 5, NULL, 0, NULL, 0, NULL, 0, NULL, 0)
           == T24_BAD_STATE, "null state");
-    check(t24_exchange(bare, 5, state, 10, NULL, 0, NULL, 0, NULL, 0)
+    check(t24_exchange(bare, 5, state, 11, NULL, 0, NULL, 0, NULL, 0)
           == T24_BAD_COMMAND, "null command");
-    check(t24_exchange(bare, 5, state, 10, NULL, 0, command, 16, NULL, 0)
+    check(t24_exchange(bare, 5, state, 11, NULL, 0, command, 16, NULL, 0)
           == T24_BAD_REPLY, "null reply");
     check(t24_replay(NULL, 0, NULL, 0, NULL, 0, NULL, 0) == T24_SHEET_CUT,
           "all null");
     check(t24_replay(bare, 5, NULL, 0, NULL, 0, NULL, 0) == T24_BAD_STATE,
           "null state");
-    check(t24_replay(bare, 5, state, 10, NULL, 0, NULL, 0) == T24_DONE,
+    check(t24_replay(bare, 5, state, 11, NULL, 0, NULL, 0) == T24_DONE,
           "null memory and trace of length 0");
+    check(t24_turn(NULL, 0, NULL, 0, NULL, 0) == T24_SHEET_CUT, "all null");
+    check(t24_turn(bare, 5, NULL, 0, state, 11) == T24_BAD_STATE,
+          "null old record");
+    check(t24_turn(bare, 5, state, 10, NULL, 0) == T24_BAD_STATE,
+          "null state");
     check(memcmp(state, state_a, sizeof state) == 0, "state changed");
-    check(t24_exchange(bare, 5, state, 10, NULL, 0, command, 16, reply, 16)
+    check(t24_exchange(bare, 5, state, 11, NULL, 0, command, 16, reply, 16)
           == T24_DONE, "null memory of length 0");
     check(reply[2] == 4 && reply[3] == 0, "reply without memory");
 }

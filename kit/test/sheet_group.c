@@ -16,12 +16,14 @@ static void refused(const char *name, const struct built *sheet,
     give(MEMORY, memory_p, sizeof memory_p);
     give_noise(COMMAND, 16);
     give_noise(REPLY, 16);
+    give(OLD, old_a, sizeof old_a);
     expect(ASK_SHEET, answer);
     expect(ASK_LENGTHS, 0);
     expect(ASK_RESET, answer);
     expect(ASK_ENABLE, answer);
     expect(ASK_EXCHANGE, answer);
     expect(ASK_REPLAY, answer);
+    expect(ASK_TURN, answer);
 }
 
 static void start(struct built *sheet)

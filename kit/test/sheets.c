@@ -13,7 +13,9 @@ const uint8_t sheet_p[33] = {
 
 const uint8_t memory_p[8] = { 0x0A, 0x0B, 0x0C, 0x0D, 0x0E, 0x0F, 0x10, 0x11 };
 
-const uint8_t state_a[T24_STATE_LEN] = { 0x11, 2, 0x10, 0, 1, 0, 0, 0, 0, 0 };
+const uint8_t state_a[T24_STATE_LEN] = { 0x12, 2, 0x10, 0, 1, 0, 0, 0, 0, 0, 0 };
+
+const uint8_t old_a[10] = { 0x11, 2, 0x10, 0, 1, 0, 0, 0, 0, 0 };
 
 const uint8_t all_l[5] = { T24_L8, T24_L16, T24_L32, T24_L48, T24_L64 };
 
@@ -66,6 +68,12 @@ void add_item(struct built *sheet, unsigned code, unsigned length)
         add_octet(sheet, i < length ? 0x40u + ((code + i) & 0x3Fu) : 0u);
 }
 
+void add_tolerance(struct built *sheet, unsigned count)
+{
+    add_octet(sheet, T24_RECORD_TOLERANCE);
+    add_octet(sheet, count);
+}
+
 void add_end(struct built *sheet)
 {
     add_octet(sheet, T24_RECORD_END);
@@ -76,6 +84,14 @@ void build_p(struct built *sheet, unsigned l)
     memcpy(sheet->octets, sheet_p, sizeof sheet_p);
     sheet->octets[1] = (uint8_t)l;
     sheet->len = sizeof sheet_p;
+}
+
+void build_tolerant(struct built *sheet, unsigned l, unsigned tolerance)
+{
+    build_p(sheet, l);
+    sheet->len--;
+    add_tolerance(sheet, tolerance);
+    add_end(sheet);
 }
 
 void build_largest(struct built *sheet, unsigned l)
@@ -90,5 +106,6 @@ void build_largest(struct built *sheet, unsigned l)
         add_parameter(sheet, i, 0x1000u + 1023u * (uint64_t)i, 56);
     for (i = 0; i < 32; i++)
         add_item(sheet, i, 32);
+    add_tolerance(sheet, T24_TOLERANCE_MAX);
     add_end(sheet);
 }

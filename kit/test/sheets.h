@@ -14,6 +14,7 @@ struct built {
 extern const uint8_t sheet_p[33];   /* the bench's sheet, L 16, 8 octets of memory */
 extern const uint8_t memory_p[8];   /* the bench's memory */
 extern const uint8_t state_a[T24_STATE_LEN]; /* AsyncConnected, L 16 */
+extern const uint8_t old_a[10]; /* the same, as release 1 had it */
 extern const uint8_t all_l[5];
 
 void add_octet(struct built *sheet, unsigned octet);
@@ -23,10 +24,14 @@ void add_region(struct built *sheet, uint64_t start, uint64_t length,
 void add_parameter(struct built *sheet, unsigned number, uint64_t address,
                    unsigned size);
 void add_item(struct built *sheet, unsigned code, unsigned length);
+void add_tolerance(struct built *sheet, unsigned count);
 void add_end(struct built *sheet);
 
 /* Sheet P with another L. */
 void build_p(struct built *sheet, unsigned l);
+
+/* Sheet P with another L and, behind its parameter, a tolerance record. */
+void build_tolerant(struct built *sheet, unsigned l, unsigned tolerance);
 
 /* Every record there may be: the most a call ever has to read. */
 void build_largest(struct built *sheet, unsigned l);

@@ -2,11 +2,12 @@
  * Stands between the test and the library and spoils one thing at a time, as
  * the variable SPOIL says, so that it shows whether the test notices; between
  * compare and the library for peer/valgrind and peer/sanitized.
- * Linked with --wrap for each of the six calls.
+ * Linked with --wrap for each of the six calls; t24_turn and t24_version have
+ * a file of their own.
  */
-#include "type24.h"
+#include "spoil.h"
+#include "spoil_lost.h"
 
-#include <stdlib.h>
 #include <string.h>
 
 uint64_t __real_t24_sheet(const uint8_t *, size_t);
@@ -27,15 +28,6 @@ uint64_t __wrap_t24_exchange(const uint8_t *, size_t, uint8_t *, size_t,
                              uint8_t *, size_t);
 uint64_t __wrap_t24_replay(const uint8_t *, size_t, uint8_t *, size_t,
                            uint8_t *, size_t, const uint8_t *, size_t);
-
-static int spoil(int number)
-{
-    static int chosen = -1;
-
-    if (chosen < 0)
-        chosen = getenv("SPOIL") ? atoi(getenv("SPOIL")) : 0;
-    return chosen == number;
-}
 
 uint64_t __wrap_t24_sheet(const uint8_t *sheet, size_t len)
 {
@@ -60,9 +52,15 @@ uint64_t __wrap_t24_lengths(const uint8_t *sheet, size_t len)
 uint64_t __wrap_t24_reset(const uint8_t *sheet, size_t sheet_len,
                           uint8_t *state, size_t state_len)
 {
+    const uint8_t last = state_len == T24_STATE_LEN ? state[10] : 0;
+    uint64_t answer;
+
     if (spoil(4) && state_len > T24_STATE_LEN)
         state_len = T24_STATE_LEN; /* a longer record passes */
-    return __real_t24_reset(sheet, sheet_len, state, state_len);
+    answer = __real_t24_reset(sheet, sheet_len, state, state_len);
+    if (spoil(36) && answer == T24_DONE)
+        state[T24_AT_FAILURES] = last; /* ten octets written, as before */
+    return answer;
 }
 
 uint64_t __wrap_t24_enable(const uint8_t *sheet, size_t sheet_len,
@@ -169,10 +167,17 @@ uint64_t __wrap_t24_exchange(const uint8_t *sheet, size_t sheet_len,
                              uint8_t *reply, size_t reply_len)
 {
     const uint8_t *seen = spoil_watchdog(state, state_len, command, command_len);
-    uint64_t answer = __real_t24_exchange(sheet, sheet_len, state, state_len,
-                                          memory, memory_len, seen,
-                                          command_len, reply, reply_len);
+    uint8_t before[T24_STATE_LEN] = { 0 };
+    uint64_t answer;
 
+    if (state_len == T24_STATE_LEN)
+        memcpy(before, state, sizeof before);
+    answer = __real_t24_exchange(spoil_tolerance(sheet, sheet_len), sheet_len,
+                                 state, state_len, memory, memory_len, seen,
+                                 command_len, reply, reply_len);
+    if (t24_number(answer) == T24_DONE)
+        answer = spoil_tolerated(answer, before, state, memory, memory_len,
+                                 reply);
     if (spoil_order(memory_len, command_len, reply_len, answer))
         answer = T24_BAD_REPLY;
     if (spoil(16) && t24_number(answer) == T24_DONE

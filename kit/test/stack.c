@@ -1,7 +1,8 @@
 /* Measures the stack that every call needs, alone, less what an empty function
  * takes there: on the smallest sheet, on the largest, and on the largest with a
- * last region that gives no right; every code in every link, accepted and
- * refused; refused calls; traces that agree, that differ and that have a fault.
+ * last region that gives no right; every code in every link, accepted, refused,
+ * and in a cycle that is lost, tolerated or not; refused calls; old records;
+ * traces that agree, that differ and that have a fault.
  * Fails where a call takes what the header promises, or more. */
 #include "painted.h"
 #include "sheets.h"
@@ -15,20 +16,21 @@
 #endif
 #define RECORDS 256u
 
-enum { SHEET, LENGTHS, RESET, ENABLE, EXCHANGE, REPLAY, CALLS };
-static const char *const names[CALLS] = { "sheet",  "lengths",  "reset",
-                                          "enable", "exchange", "replay" };
+enum { SHEET, LENGTHS, RESET, TURN, VERSION, ENABLE, EXCHANGE, REPLAY, CALLS };
+static const char *const names[CALLS] = { "sheet",  "lengths", "reset",
+                                          "turn",   "version", "enable",
+                                          "exchange", "replay" };
 
 static struct built sheet;
-static size_t l, sheet_len, state_len, memory_len;
+static size_t l, sheet_len, state_len, old_len, memory_len;
 static uint8_t state[T24_STATE_LEN + 1], memory[T24_MEMORY_MAX + 1];
 static uint8_t command[T24_L_MAX], reply[T24_L_MAX];
-static uint8_t start[T24_STATE_LEN];
+static uint8_t start[T24_STATE_LEN], old[T24_OLD_STATE_LEN];
 static uint8_t trace[RECORDS * (1 + 2 * T24_L_MAX)];
 static size_t trace_len;
 static uint64_t answer;
 static size_t empty, most[CALLS];
-static unsigned accepted[32], refused[32], differed, faulty;
+static unsigned accepted[32], refused[32], tolerated, left, differed, faulty;
 
 static void nothing(void) { answer = 0; }
 static void ask_sheet(void) { answer = t24_sheet(sheet.octets, sheet_len); }
@@ -39,6 +41,13 @@ static void ask_reset(void)
 {
     answer = t24_reset(sheet.octets, sheet_len, state, state_len);
 }
+
+static void ask_turn(void)
+{
+    answer = t24_turn(sheet.octets, sheet_len, old, old_len, state, state_len);
+}
+
+static void ask_version(void) { answer = t24_version() - T24_RELEASE; }
 
 static void ask_enable(void)
 {
@@ -57,8 +66,9 @@ static void ask_replay(void)
                         memory_len, trace, trace_len);
 }
 
-static void (*const calls[CALLS])(void) = { ask_sheet,  ask_lengths,
-                                            ask_reset,  ask_enable,
+static void (*const calls[CALLS])(void) = { ask_sheet,    ask_lengths,
+                                            ask_reset,    ask_turn,
+                                            ask_version,  ask_enable,
                                             ask_exchange, ask_replay };
 
 static void measure(int which)
@@ -85,6 +95,10 @@ static void lend(size_t length, size_t octets)
     l = length;
     sheet_len = sheet.len;
     state_len = T24_STATE_LEN;
+    old_len = sizeof old;
+    memset(old, 0, sizeof old);
+    old[T24_AT_KIND] = T24_OLD_STATE_KIND;
+    old[T24_AT_L] = (uint8_t)length;
     memory_len = octets;
     trace_len = 0;
     memset(memory, 0, sizeof memory);
@@ -97,12 +111,14 @@ static void measure_refused_calls(void)
     int which, lack;
 
     for (which = SHEET; which < CALLS; which++) {
-        for (lack = 0; lack < 4; lack++) {
+        for (lack = 0; lack < 5; lack++) {
             sheet_len = sheet.len - (lack == 0) - (lack == 1) * sheet.len;
             state_len = T24_STATE_LEN - (lack == 2);
             memory_len += lack == 3;
+            old_len -= lack == 4;
             measure(which);
             memory_len -= lack == 3;
+            old_len += lack == 4;
         }
         sheet_len = sheet.len;
         state_len = T24_STATE_LEN;
@@ -160,6 +176,8 @@ static void measure_exchange(unsigned code, int wrong, int lost)
     memcpy(state, start, sizeof start);
     measure(EXCHANGE);
     must(t24_number(answer) == T24_DONE, "an exchange that is executed");
+    tolerated += (unsigned)t24_reply_tolerated(reply);
+    left += t24_reply_communication_alarm(reply) != 0;
     if (t24_reply_alarm(reply) != 0)
         refused[code]++;
     else if (!lost)
@@ -190,22 +208,33 @@ static void measure_replay(void)
     faulty += t24_number(answer) != 0;
 }
 
+/* Every code, as it should be, with every field wrong, and in a lost cycle. */
+static void measure_codes(void)
+{
+    unsigned code, k;
+
+    for (code = 0; code < 32; code++)
+        for (k = 0; k < 3; k++) {
+            measure_exchange(code, k == 1, k == 2);
+            measure_replay();
+        }
+}
+
 static void measure_sheet(void)
 {
-    unsigned link, code, k;
+    unsigned link;
     int which;
 
-    for (which = SHEET; which <= ENABLE; which++)
+    for (which = SHEET; which <= ENABLE; which++) {
         measure(which);
-    must(answer == T24_DONE, "an accepted call");
+        must(which <= LENGTHS || answer == T24_DONE, "an accepted call");
+    }
     for (link = T24_LINK_DISCONNECTED; link <= T24_LINK_SYNC; link++) {
         enter(link);
-        for (code = 0; code < 32; code++)
-            for (k = 0; k < 3; k++) {
-                measure_exchange(code, k == 1, k == 2);
-                measure_replay();
-            }
+        measure_codes();
     }
+    start[T24_AT_FAILURES] = (uint8_t)t24_tolerance(sheet.octets, sheet_len);
+    measure_codes();
     measure_refused_calls();
 }
 
@@ -220,7 +249,8 @@ static int all_codes(void)
 
     for (i = 0; i < sizeof codes; i++)
         all = all && accepted[codes[i]] > 0 && refused[codes[i]] > 0;
-    return all && refused[4] > 0 && differed > 0 && faulty > 0;
+    return all && refused[4] > 0 && tolerated > 0 && left > 0 && differed > 0
+        && faulty > 0;
 }
 
 int main(void)

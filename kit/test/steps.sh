@@ -6,8 +6,9 @@ CHECKED="valgrind -q --error-exitcode=9"
 
 test_contents() {
     say "contents"
-    for file in include/type24.h include/type24_octets.h include/type24_watchdog.h include/type24_words.h \
-        include/type24_version.h x86_64/lib/libtype24.a x86_64/lib/pkgconfig/type24.pc \
+    for file in include/type24.h include/type24_octets.h include/type24_answers.h include/type24_reply.h \
+        include/type24_watchdog.h include/type24_release.h include/type24_words.h include/type24_version.h \
+        x86_64/lib/libtype24.a x86_64/lib/pkgconfig/type24.pc \
         lib/libtype24.a lib/pkgconfig/type24.pc doc/LINKING.md doc/PROCESSORS.md \
         doc/INTEGRATOR.md doc/FITTER.md doc/ENGINEER.md doc/RULES.md doc/rules/calls.md \
         example/oven.c example/example.sheet example/explain.c bin/t24-explain \
@@ -79,18 +80,19 @@ test_with_checkers() {
     "$work/boundary-address" || fail "boundary with the address sanitizer"
     say "both can fail"
     first="$CHECKED --exit-on-first-error=yes"
-    $blocks spoil.c "$work/at-hand.a" $(wraps) -o "$work/spoiled-blocks"
+    $blocks spoil.c spoil_turn.c "$work/at-hand.a" $(wraps) -o "$work/spoiled-blocks"
     must_fail "an octet written behind a reply" "Invalid write" env SPOIL=9 $first "$work/spoiled-blocks"
     must_fail "an octet written before a reply" "Invalid write" env SPOIL=10 $first "$work/spoiled-blocks"
     must_fail "an octet read behind a command" "Invalid read" env SPOIL=12 $first "$work/spoiled-blocks"
     must_fail "an octet read behind a trace" "Invalid read" env SPOIL=19 $first "$work/spoiled-blocks"
-    $blocks spoil.c $UNDEFINED -fsanitize=address "$work/at-hand.a" $(wraps) -o "$work/spoiled-address"
+    must_fail "an octet read behind an old record" "Invalid read" env SPOIL=54 $first "$work/spoiled-blocks"
+    $blocks spoil.c spoil_turn.c $UNDEFINED -fsanitize=address "$work/at-hand.a" $(wraps) -o "$work/spoiled-address"
     must_fail "an octet written behind a reply, by the sanitizer" "heap-buffer-overflow" env SPOIL=9 "$work/spoiled-address"
 }
 
-# wraps: the flags that put spoil.c between the test and the library.
+# wraps: the flags that put spoil.c and spoil_turn.c between the test and the library.
 wraps() {
-    for name in sheet lengths reset enable exchange replay; do
+    for name in sheet lengths reset enable exchange replay turn version; do
         printf ' -Wl,--wrap=t24_%s' "$name"
     done
 }
@@ -99,10 +101,12 @@ test_that_tests_fail() {
     say "the tests can fail"
     $HAND -static -DWRONG_EXPECTATION $SOURCES $HAND_LIB -o "$work/wrong"
     must_fail "a wrong expectation" FAILED hand "$work/wrong" stop
-    $HAND -static $SOURCES spoil.c $HAND_LIB $(wraps) -o "$work/spoiled"
+    $HAND -static $SOURCES spoil.c spoil_turn.c $HAND_LIB $(wraps) -o "$work/spoiled"
     export SPOIL=0
     hand "$work/spoiled" stop >"$work/out" || fail "unspoiled, yet fails"
-    for number in 1 2 3 4 5 6 7 8 9 10 11 12 13 14 15 16 17 18 19 20 21 22 23 24 25 26 27 28 29; do
+    number=0
+    while [ "$number" -lt 54 ]; do
+        number=$((number + 1))
         SPOIL=$number
         must_fail "spoil $number" FAILED hand "$work/spoiled" stop
     done
@@ -129,7 +133,7 @@ test_that_words_fail() {
         's/text->len < text->room ? text->len : text->room - 1/text->len/'
     wrong_words "a limit off by one" type24_sheet_words.h \
         's/memory <= T24_MEMORY_MAX/memory <= T24_MEMORY_MAX + 1/'
-    wrong_words "an identity of one bit" type24.h \
+    wrong_words "an identity of one bit" type24_reply.h \
         's/(reply\[T24_REPLY_AT_STATUS\] >> 6) & 0x03u/(reply[T24_REPLY_AT_STATUS] >> 6) \& 0x01u/'
     wrong_words "an identity told in a command cut before it" type24_pdu_words.h \
         's/t24_field(&pdu, T24_COMMAND_AT_CONTROL, 1)/pdu.at[T24_COMMAND_AT_CONTROL]/'
@@ -157,6 +161,40 @@ test_that_words_fail() {
         's/t24_put_decimal(text, memory_len);/t24_put_decimal(text, wanted);/'
 }
 
+# The words of request 9: what is tolerated, and what is of release 1.
+test_that_tolerance_fails() {
+    wrong_words "a tolerance read beside its record" type24_records.h \
+        's/sheet\[at\] == T24_RECORD_TOLERANCE/sheet[at] >= T24_RECORD_ID/'
+    wrong_words "a tolerance of a cut record" type24_records.h \
+        's/if (len == 0 || len > sheet_len - at)/if (len == 0)/'
+    wrong_words "one lost cycle too many told as tolerated" type24_watchdog.h \
+        's/state\[T24_AT_FAILURES\] < t24_tolerance/state[T24_AT_FAILURES] <= t24_tolerance/'
+    wrong_words "the last tolerated one told as one too many" type24_watchdog_words.h \
+        's/if (count < tolerance)/if (count + 1 < tolerance)/'
+    wrong_words "a row counted from 0" type24_watchdog_words.h \
+        's/t24_put_decimal(text, count + 1)/t24_put_decimal(text, count)/'
+    wrong_words "a row told of a cycle that is kept" type24_watchdog_words.h \
+        's/if (t24_watchdog_fails(state, command))/if (t24_watchdog_asks(state))/'
+    wrong_words "a tolerated command told as accepted" type24_words.h \
+        's/if (alarm == T24_ALARM_NONE \&\& tolerated)/if (0)/'
+    wrong_words "bit 1 of the other octet" type24_reply.h \
+        's/reply\[T24_REPLY_AT_STATUS\] & T24_STATUS_TOLERATED/reply[T24_REPLY_AT_STATUS + 1] \& T24_STATUS_TOLERATED/'
+    wrong_words "four lost cycles told as allowed" type24_range_words.h \
+        's/value > T24_TOLERANCE_MAX/value > T24_TOLERANCE_MAX + 1/'
+    wrong_words "a record behind the tolerance told as one behind an ID item" type24_sheet_words.h \
+        's/if (tolerance && kind >= T24_RECORD_REGION/if (0 \&\& kind >= T24_RECORD_REGION/'
+    wrong_words "a count above the sheet's told as valid" type24_state_words.h \
+        's/failures > tolerance)/failures > tolerance + 1)/'
+    wrong_words "a count out of step told as valid" type24_state_words.h \
+        's/failures != 0 && state\[T24_AT_LINK\] != T24_LINK_SYNC/0/'
+    wrong_words "an octet read behind a record of release 1" type24_state_words.h \
+        's/state\[T24_AT_KIND\] != T24_OLD_STATE_KIND/1/'
+    wrong_words "a new length not asked of t24_turn" type24_state_words.h \
+        's/ && state_len != T24_STATE_LEN)/ \&\& state_len < T24_STATE_LEN)/'
+    wrong_words "a header of another release" type24_release.h \
+        's/T24_RELEASE 2 /T24_RELEASE 3 /'
+}
+
 # Of the product, and of the archive for the processor at hand; and a promise that is not kept must be noticed.
 test_stack() {
     say "stack"
@@ -182,6 +220,8 @@ test_linking_page() {
 }
 
 . "$kit/test/oven-steps.sh"
+. "$kit/test/release-steps.sh"
 . "$kit/test/processor-steps.sh"
 . "$kit/test/explain-steps.sh"
 . "$kit/test/explain-refused-steps.sh"
+. "$kit/test/explain-tolerated-steps.sh"

@@ -41,11 +41,14 @@ void give_state(unsigned l, unsigned link, int variant)
     state[T24_AT_LINK] = (uint8_t)link;
     state[T24_AT_L] = (uint8_t)l;
     state[T24_AT_COM_TIME] = link >= T24_LINK_ASYNC;
-    if (variant == 4)
-        state[T24_AT_KIND] = 0x12;
+    if (variant == 4 || variant == 8)
+        state[T24_AT_KIND] = 0x11;
     if (variant == 5)
         state[T24_AT_L] = (uint8_t)(l == 16 ? 32 : 16);
     if (variant == 6)
         state[T24_AT_COMMUNICATION_ALARM] = 8;
-    give(STATE, state, near_length(T24_STATE_LEN, variant > 3 ? 0 : variant));
+    if (variant == 7)
+        state[T24_AT_FAILURES] = 1; /* the sheet tolerates none */
+    give(STATE, state, variant == 8 ? 10u
+         : near_length(T24_STATE_LEN, variant > 3 ? 0 : variant));
 }

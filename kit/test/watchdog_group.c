@@ -34,7 +34,7 @@ static void taken(unsigned mn, unsigned rsn)
 /* A lost cycle, whatever the command is. */
 static void lost(void)
 {
-    static const uint8_t after[] = { 0x11, 2, 16, 0, 1, 0, 0, 0, 0, 12 };
+    static const uint8_t after[] = { 0x12, 2, 16, 0, 1, 0, 0, 0, 0, 12, 0 };
 
     memcpy(wanted(STATE), after, sizeof after);
     memset(wanted(REPLY) + 1, 0, 15);
@@ -57,7 +57,7 @@ void watchdog_cases(void)
         { 15, 0, 0x10, 0 }, { 15, 0, 0xF0, 0 }, { 0, 15, 0xF1, 0x01 },
         { 0, 1, 0x11, 0x21 }, { 0, 1, 0x01, 0 }, { 4, 5, 0x54, 0 }
     };
-    uint8_t state[T24_STATE_LEN] = { 0x11, 3, 16, 0, 1, 1, 0, 0, 0, 0 };
+    uint8_t state[T24_STATE_LEN] = { 0x12, 3, 16, 0, 1, 1, 0, 0, 0, 0, 0 };
     size_t i;
 
     for (i = 0; i < sizeof rows / sizeof rows[0]; i++) {
@@ -77,7 +77,7 @@ void watchdog_every_wdt(void)
 {
     static const uint8_t next[] = { 1, 2, 3, 4, 5, 6, 7, 8, 9, 10, 11, 12, 13,
                                     14, 15, 0 };
-    uint8_t state[T24_STATE_LEN] = { 0x11, 3, 16, 0, 1, 1, 0, 0, 0, 0 };
+    uint8_t state[T24_STATE_LEN] = { 0x12, 3, 16, 0, 1, 1, 0, 0, 0, 0, 0 };
     unsigned rsn, wdt;
     int right;
 
@@ -105,9 +105,9 @@ void watchdog_every_wdt(void)
 /* Nothing is asked while MN is not known, nor outside link 3. */
 void watchdog_not_asked(void)
 {
-    static const uint8_t entered[] = { 0x11, 3, 16, 0, 1, 0, 0, 0, 0, 0 };
-    static const uint8_t async[] = { 0x11, 2, 16, 0, 1, 0, 0, 0, 0, 0 };
-    static const uint8_t apart[] = { 0x11, 1, 16, 0, 0, 0, 0, 0, 0, 0 };
+    static const uint8_t entered[] = { 0x12, 3, 16, 0, 1, 0, 0, 0, 0, 0, 0 };
+    static const uint8_t async[] = { 0x12, 2, 16, 0, 1, 0, 0, 0, 0, 0, 0 };
+    static const uint8_t apart[] = { 0x12, 1, 16, 0, 0, 0, 0, 0, 0, 0, 0 };
     unsigned wdt;
 
     for (wdt = 0; wdt < 256; wdt++) {

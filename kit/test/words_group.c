@@ -8,6 +8,8 @@
 
 #include "type24_words.h"
 
+#define LATE " after the tolerance record: that comes behind regions, parameters " \
+             "and ID items"
 #define LINK "01 10 30 00 "
 #define REGION "02 00 10 00 00 04 00 00 00 03 " /* 4 octets at 1000 */
 #define PARAMETER "03 07 00 00 10 00 00 04 "    /* number 7, all of them */
@@ -25,8 +27,12 @@ static const struct {
     { LINK REGION PARAMETER "03 08 00 00 10 00 00",
       "11 at octet 22: 2nd parameter: 1 of its 8 octets is missing" },
     { LINK "04", "11 at octet 4: 1st ID item: 34 of its 35 octets are missing" },
-    { LINK "05", "12 at octet 4: kind 05 is unknown: a record begins with 00 to 04" },
-    { "FF", "12 at octet 0: kind FF is unknown: a record begins with 00 to 04" },
+    { LINK "05", "12 at octet 4: kind 05 is unknown: a record begins with 00 to 04 "
+      "or 06" },
+    { "FF", "12 at octet 0: kind FF is unknown: a record begins with 00 to 04 or "
+      "06" },
+    { LINK "07 01 00", "12 at octet 4: kind 07 is unknown: a record begins with 00 "
+      "to 04 or 06" },
     { "02 00", "13 at octet 0: the sheet begins with 02, not with a link record, 01" },
     { "00", "13 at octet 0: the sheet begins with 00, not with a link record, 01" },
     { LINK LINK, "13 at octet 4: a second link record: it comes first and once" },
@@ -39,6 +45,29 @@ static const struct {
     { LINK REGION ITEM "03",
       "13 at octet 49: 1st parameter after an ID item: "
       "regions come first, then parameters, then ID items" },
+    { "06 01", "13 at octet 0: the sheet begins with 06, not with a link record, 01" },
+    { LINK "06 01 06 01 00",
+      "13 at octet 6: a second tolerance record: it comes at most once" },
+    { LINK "06 00 06",
+      "13 at octet 6: a second tolerance record: it comes at most once" },
+    { LINK "06 01 " LINK, "13 at octet 6: a second link record: it comes first and once" },
+    { LINK "06 01 " REGION "00", "13 at octet 6: region 1" LATE },
+    { LINK REGION PARAMETER "06 01 02", "13 at octet 24: region 2" LATE },
+    { LINK REGION "06 01 03", "13 at octet 16: 1st parameter" LATE },
+    { LINK ITEM "06 01 04", "13 at octet 41: 2nd ID item" LATE },
+    { LINK "06 03 00 06 03", "13 at octet 7: 2 octets after the end record" },
+    { LINK "06", "11 at octet 4: tolerance record: 1 of its 2 octets is missing" },
+    { LINK "06 03", "11 at octet 6: no end record" },
+    { LINK ITEM "06 04 00",
+      "14 at octet 39: tolerance record, lost cycles 4: only 0 to 3" },
+    { LINK "06 FF 00",
+      "14 at octet 4: tolerance record, lost cycles 255: only 0 to 3" },
+    { LINK "06 00 00", "valid, L 16, 0 octets of memory, 0 regions, 0 parameters, "
+      "0 ID items, tolerates 0 lost cycles in a row" },
+    { LINK "06 01 00", "valid, L 16, 0 octets of memory, 0 regions, 0 parameters, "
+      "0 ID items, tolerates 1 lost cycle in a row" },
+    { LINK REGION PARAMETER ITEM "06 03 00", "valid, L 16, 4 octets of memory, "
+      "1 region, 1 parameter, 1 ID item, tolerates 3 lost cycles in a row" },
     { LINK "00 00", "13 at octet 5: 1 octet after the end record" },
     { LINK "00 01 02 03", "13 at octet 5: 3 octets after the end record" },
     { "01 18 30 00 00", "14 at octet 0: link record, L 24: only 8, 16, 32, 48 or 64" },
@@ -244,7 +273,7 @@ void words_cut(void)
     unsigned number;
     size_t len, at;
 
-    read_hex(&whole, LINK REGION PARAMETER ITEM "00");
+    read_hex(&whole, LINK REGION PARAMETER ITEM "06 03 00");
     for (len = 0; len <= whole.len; len++) {
         label("length", (long)len);
         sheet = place(SHEET, whole.octets, len, 1);

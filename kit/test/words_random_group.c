@@ -34,12 +34,14 @@ static void nearly_good(struct built *sheet)
     count = below(4) == 0 ? 31 + below(3) : below(4);
     for (i = 0; i < count; i++)
         add_item(sheet, i, 1 + below(32));
+    if (below(3) == 0)
+        add_tolerance(sheet, below(5));
     add_end(sheet);
 }
 
 static void random_sheet(struct built *sheet)
 {
-    static const uint8_t likely[] = { 0, 1, 2, 3, 4, 5, 8, 16, 57, 255 };
+    static const uint8_t likely[] = { 0, 1, 2, 3, 4, 5, 6, 8, 57, 255 };
     uint32_t changes = below(3);
 
     nearly_good(sheet);

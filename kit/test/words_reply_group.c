@@ -1,4 +1,4 @@
-/* Commands, replies, states and traces in words. */
+/* Commands, replies and traces in words. */
 #include "groups.h"
 #include "place.h"
 #include "said.h"
@@ -15,6 +15,21 @@ static void status(unsigned low, unsigned high, const char *words)
     check(t24_status_words(octets, NULL, 0) == strlen(words), "no room at all");
 }
 
+/* Bit 1: nothing was executed, whatever else the status has. */
+static void status_tolerated(void)
+{
+    status(6, 0x00, "not executed, a lost cycle was tolerated");
+    status(0x47, 0x00, "not executed, a lost cycle was tolerated; a latch is "
+           "set; identity 1");
+    status(7, 0xC0, "not executed, a lost cycle was tolerated; communication "
+           "latch 12, a cycle was lost: MN did not follow, or SN was not RSN; "
+           "a latch is set");
+    status(7, 0x09, "alarm 9, a field of the command is wrong; a lost cycle was "
+           "tolerated; a latch is set");
+    status(0x3A, 0x00, "not executed, a lost cycle was tolerated; bit 2 is 0, "
+           "must be 1; bits 3 to 5 are not 0");
+}
+
 void words_status(void)
 {
     status(4, 0x00, "accepted");
@@ -27,8 +42,8 @@ void words_status(void)
            "MN did not follow, or SN was not RSN; a latch is set");
     status(5, 0x0C, "alarm 12, command not allowed in this link; a latch is set");
     status(0, 0x00, "accepted; bit 2 is 0, must be 1");
-    status(6, 0x30, "alarm 0, none; communication latch 3, not an alarm of this "
-           "library; bits 1 and 3 to 5 are not 0");
+    status(12, 0x30, "alarm 0, none; communication latch 3, not an alarm of this "
+           "library; bits 3 to 5 are not 0");
     status(0x44, 0x00, "accepted; identity 1");
     status(0x85, 0x00, "accepted; a latch is set; identity 2");
     status(0xC5, 0x0A, "alarm 10, no right to part of the span; a latch is set; "
@@ -36,84 +51,11 @@ void words_status(void)
     status(0xC5, 0xC0, "alarm 0, none; communication latch 12, a cycle was lost: "
            "MN did not follow, or SN was not RSN; a latch is set; identity 3");
     status(0xE0, 0x00, "accepted; identity 3; bit 2 is 0, must be 1; "
-           "bits 1 and 3 to 5 are not 0");
+           "bits 3 to 5 are not 0");
+    status_tolerated();
     check(strcmp(t24_communication_words(0), "none") == 0, "no latch");
     check(strcmp(t24_communication_words(12), t24_alarm_words(12)) != 0,
           "one 12 is not the other");
-}
-
-static void state(const uint8_t *octets, const char *words)
-{
-    label("link", (long)octets[T24_AT_LINK]);
-    same(t24_state_words(place(STATE, octets, T24_STATE_LEN, 1), text,
-                         sizeof text), words);
-}
-
-void words_state(void)
-{
-    static const uint8_t latched[] = { 0x11, 2, 16, 0, 1, 0, 0, 0, 9, 0 };
-    static const uint8_t in_step[] = { 0x11, 3, 16, 1, 2, 1, 15, 4, 0, 12 };
-    static const uint8_t disabled[] = { 0x11, 0, 8, 0, 0, 0, 0, 0, 0, 0 };
-    static const uint8_t none[] = { 0x11, 7, 8, 0, 0, 0, 0, 0, 0, 0 };
-
-    state(latched, "link 2 AsyncConnected, command latch 9, "
-          "communication latch 0");
-    state(in_step, "link 3 SyncConnected, dual transfer, last MN 15, RSN 4, "
-          "command latch 0, communication latch 12");
-    state(disabled, "link 0 Disabled, command latch 0, communication latch 0");
-    state(none, "link 7 not a link, command latch 0, communication latch 0");
-}
-
-static void state_fault(const uint8_t *octets, const char *words)
-{
-    const char *told = t24_state_fault_words(octets, T24_STATE_LEN, 16);
-
-    if (strcmp(told, words) != 0)
-        fprintf(stderr, "  said:   %s\n  wanted: %s\n", told, words);
-    check(strcmp(told, words) == 0, "words of a state's fault");
-}
-
-/* Every pair of octets changed: "valid" exactly where the library takes it. */
-static void state_faults_agree(const uint8_t *base)
-{
-    static const uint8_t values[] = { 0, 1, 2, 3, 4, 8, 9, 10, 11, 12, 15, 16,
-                                      17, 255 };
-    uint8_t octets[T24_STATE_LEN], copy[T24_STATE_LEN];
-    size_t pair, i, j;
-
-    for (pair = 0; pair < 100; pair++)
-        for (i = 0; i < sizeof values; i++)
-            for (j = 0; j < sizeof values; j++) {
-                memcpy(octets, base, sizeof octets);
-                octets[pair / 10] = values[i];
-                octets[pair % 10] = values[j];
-                memcpy(copy, octets, sizeof copy);
-                check((t24_number(t24_enable(sheet_p, sizeof sheet_p, copy,
-                                             sizeof copy)) == T24_BAD_STATE)
-                      == (strcmp(t24_state_fault_words(octets, sizeof octets,
-                                                       16), "valid") != 0),
-                      "the library says otherwise");
-            }
-}
-
-void words_state_faults(void)
-{
-    static const uint8_t sync[] = { 0x11, 3, 16, 1, 2, 1, 3, 4, 9, 12 };
-    static const uint8_t disabled[] = { 0x11, 0, 16, 0, 0, 0, 0, 0, 0, 0 };
-    static const uint8_t late[] = { 0x11, 0, 16, 0, 0, 0, 0, 0, 9, 0 };
-    static const uint8_t other[] = { 0x11, 2, 32, 0, 1, 0, 0, 0, 0, 0 };
-    static const uint8_t idle[] = { 0x11, 2, 16, 0, 0, 0, 0, 0, 0, 0 };
-
-    state_fault(sync, "valid");
-    state_fault(disabled, "valid");
-    state_fault(late, "octets 8 and 9, the latches, are not 0 in link 0");
-    state_fault(other, "octet 2, L, is not the sheet's");
-    state_fault(idle, "octet 4, com_time, is 0 in link 2 or 3");
-    check(strcmp(t24_state_fault_words(sync, 9, 16), "it has not 10 octets")
-          == 0, "words of a state's length");
-    state_faults_agree(sync);
-    state_faults_agree(disabled);
-    state_faults_agree(state_a);
 }
 
 /* From the octet named on, up to the next line's, the words are these. */

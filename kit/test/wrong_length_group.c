@@ -13,7 +13,7 @@ static unsigned l;
  * of L - 7, as far as a sheet can have them, and an item of 32. */
 static void give_slave(unsigned link)
 {
-    uint8_t state[T24_STATE_LEN] = { 0x11, 0, 0, 0, 0, 0, 0, 0, 0, 0 };
+    uint8_t state[T24_STATE_LEN] = { 0x12, 0, 0, 0, 0, 0, 0, 0, 0, 0, 0 };
     struct built sheet;
 
     sheet.len = 0;
@@ -170,8 +170,8 @@ void wrong_at_every_l(void)
  * is wrong. */
 static void lost(unsigned code, const uint8_t *fields, unsigned wdt)
 {
-    static const uint8_t before[] = { 0x11, 3, 0, 0, 1, 1, 3, 5, 0, 0 };
-    static const uint8_t after[] = { 0x11, 2, 0, 0, 1, 0, 0, 0, 0, 12 };
+    static const uint8_t before[] = { 0x12, 3, 0, 0, 1, 1, 3, 5, 0, 0, 0 };
+    static const uint8_t after[] = { 0x12, 2, 0, 0, 1, 0, 0, 0, 0, 12, 0 };
 
     give_slave(T24_LINK_SYNC);
     give(STATE, before, sizeof before);

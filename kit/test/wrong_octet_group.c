@@ -110,7 +110,7 @@ static const struct wrong memories[] = {
 /* Every octet has every right, so alarm 10 is never the reason. */
 static void give_slave(unsigned link)
 {
-    uint8_t state[T24_STATE_LEN] = { 0x11, 0, L, 0, 0, 0, 0, 0, 0, 0 };
+    uint8_t state[T24_STATE_LEN] = { 0x12, 0, L, 0, 0, 0, 0, 0, 0, 0, 0 };
     struct built sheet;
 
     sheet.len = 0;

@@ -30,14 +30,21 @@ test_words() {
     expect "words for a sheet" 2 "" "refused: 11, at octet 32 of the sheet
 t24-explain: faulty.bin: 11 at octet 32: no end record" "$replayer" faulty.bin state.bin memory.bin trace.bin
     expect "words for a state record" 2 "" "refused: 1
-t24-explain: memory.bin: 1: state record of wrong length or not valid: it has not 10 octets" \
+t24-explain: memory.bin: 1: state record of wrong length or not valid: it has not 11 octets" \
         "$replayer" sheet.bin memory.bin memory.bin trace.bin
     expect "words for a memory" 2 "" "refused: 2
-t24-explain: state.bin: 2: memory length is not the sum of the regions: 10, not 8" \
+t24-explain: state.bin: 2: memory length is not the sum of the regions: 11, not 8" \
         "$replayer" sheet.bin state.bin state.bin trace.bin
     expect "words for a slave that is Disabled" 2 "" "refused: 5
 t24-explain: disabled.bin: 5: exchange or replay while Disabled: octet 1 of the state record, the link, is 0" \
         "$replayer" sheet.bin disabled.bin memory.bin trace.bin
+    expect "words for an old state record" 2 "" "refused: 1
+t24-explain: ten-l.bin: 1: state record of wrong length or not valid: octet 2, L, is not the sheet's" \
+        "$replayer" sheet.bin ten-l.bin memory.bin trace.bin
+    expect "words for a memory beside an old state record" 2 "" "ten.bin: a state record of release 1, turned
+refused: 2
+t24-explain: state.bin: 2: memory length is not the sum of the regions: 11, not 8" \
+        "$replayer" sheet.bin ten.bin state.bin trace.bin
     expect "words for a kind" 2 "" "refused: 31, at octet 33 of the trace
 t24-explain: form.bin: 31 at octet 33: record 1: kind 26 is unknown: a record begins with 21 to 25" \
         "$replayer" sheet.bin state.bin memory.bin form.bin
@@ -66,7 +73,7 @@ test_bodies() {
 
 # In step with last MN 3 and RSN 5 a NOP with MN 4 and SN 7 is not executed.
 test_lost_cycle() {
-    printf '\021\003\020\000\001\001\003\005\000\000' >"$work/room/in-step.bin"
+    printf '\022\003\020\000\001\001\003\005\000\000\000' >"$work/room/in-step.bin"
     echo 22 00740000000000000000000000000000 00000000000000000000000000000000 >"$work/room/lines"
     input=$work/room/lines
     expect "a trace with another SN" 0 "" "" "$work/dist/bin/t24-hex" to unread.bin
@@ -74,4 +81,25 @@ test_lost_cycle() {
     # shellcheck disable=SC2016 # the inner shell's words
     expect "replayer on a lost cycle" 1 "ours failed the watchdog: MN 4 expected, 4 seen; SN 5 expected, 7 seen" "" \
         sh -c '"$@" >told; ended=$?; grep "^ours failed" told; exit $ended' sh "$replayer" sheet.bin in-step.bin memory.bin unread.bin
+    test_tolerated_cycle
+}
+
+# The same on a sheet that tolerates one lost cycle in a row, and a trace that has it.
+test_tolerated_cycle() {
+    # shellcheck disable=SC2016 # the inner shell's words
+    expect "replayer on a tolerated lost cycle" 1 \
+        "ours failed the watchdog: tolerated, 1 of 1 in a row: MN 4 expected, 4 seen; SN 5 expected, 7 seen" "" \
+        sh -c '"$@" >told; ended=$?; grep "^ours failed" told; exit $ended' sh "$replayer" tolerant.bin in-step.bin memory.bin unread.bin
+    echo 22 00740000000000000000000000000000 00640600000000000000000000000000 >"$work/room/lines"
+    input=$work/room/lines
+    expect "a trace with a tolerated lost cycle" 0 "" "" "$work/dist/bin/t24-hex" to lost.bin
+    input=/dev/null
+    expect "replayer where all agree, one lost cycle tolerated" 0 "all agree: 1 record
+lost:   1 cycle, tolerated
+after:  link 3 SyncConnected, last MN 4, RSN 6, 1 lost cycle in a row, command latch 0, communication latch 0
+memory: 0 of 8 octets changed" "" "$replayer" tolerant.bin in-step.bin memory.bin lost.bin
+    expect "replayer from an old state record" 0 "ten.bin: a state record of release 1, turned
+all agree: 15 records
+after:  link 2 AsyncConnected, command latch 0, communication latch 12
+memory: 4 of 8 octets changed" "" "$replayer" sheet.bin ten.bin memory.bin trace.bin
 }

@@ -97,7 +97,9 @@ test_hex_from() {
 02041000000400000006 # 14: region
 0307000210000002 # 24: parameter
 00 # 32: end" "" "$hex" from sheet.bin --sheet
-    expect "t24-hex --state" 0 "11 # kind
+    expect "t24-hex --sheet, a tolerance record" 0 "0601 # 32: tolerance
+00 # 34: end" "" sh -c '"$1" from tolerant.bin --sheet | tail -n 2' sh "$hex"
+    expect "t24-hex --state" 0 "12 # kind
 02 # link
 10 # L
 00 # dual
@@ -106,8 +108,13 @@ test_hex_from() {
 00 # last MN
 00 # RSN
 00 # command latch
-00 # communication latch" "" "$hex" from state.bin --state
-    expect "t24-hex --state of no octet" 0 "# too short, a state record has 10 octets" "" "$hex" from empty.bin --state
+00 # communication latch
+00 # lost in a row" "" "$hex" from state.bin --state
+    expect "t24-hex --state of release 1" 0 "00 # communication latch
+# of release 1, a state record has 11 octets" "" sh -c '"$1" from ten.bin --state | tail -n 2' sh "$hex"
+    expect "t24-hex --state of an octet too many" 0 "00 # too long, a state record has 11 octets" "" \
+        sh -c 'cat state.bin >long.bin && printf "\\000" >>long.bin && "$1" from long.bin --state | tail -n 1' sh "$hex"
+    expect "t24-hex --state of no octet" 0 "# too short, a state record has 11 octets" "" "$hex" from empty.bin --state
     expect "t24-hex --memory" 0 "0A0B0C0D0E0F1011                 # 0" "" "$hex" from memory.bin --memory
     expect "t24-hex --trace" 0 "22 1D000000001104000010000000000000 1D00040000110400001000000A0B0C0D
 26 1D000000001105000010000000000000 1D000509000000000000000000000000 # not the kind of L 16..." "" \

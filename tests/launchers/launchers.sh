@@ -73,6 +73,11 @@ test_bench_hex() {
     expect "bench --hex with an odd digit" 2 "" "t24-hex: line 2: an odd digit in 0" "$bench" --hex sheet.bin
     printf '%032d\n# NOP\n%030d\n%034d\n' 0 0 0 >"$input"
     expect "bench --hex with a short line" 2 "" "t24-hex: line 3: 15 octets, not 16" "$bench" --hex sheet.bin
+    printf '0e00000030020100%016d\n0000%028d\n0000%028d\n0000%028d\n' 0 0 0 0 >"$input"
+    expect "bench --hex with lost cycles" 0 "0E000400300201000000000000000000
+00100400000000000000000000000000
+00200600000000000000000000000000
+000005C0000000000000000000000000" "" "$bench" --hex tolerant.bin
     printf '%064d\n' 0 >"$input"
     expect "bench --hex with two commands on a line" 2 "" "t24-hex: line 1: 32 octets, not 16" "$bench" --hex sheet.bin
     expect "bench --hex with a refused sheet" 2 "SHEET 11 32" "bench: faulty.bin: the sheet is refused" "$bench" --hex faulty.bin
@@ -94,6 +99,9 @@ $REPLAYER_USAGE" "$replayer" sheet.bin --help
     expect "replayer with two names" 0 "all agree: 15 records" "$TAKEN" "$replayer" sheet.bin state.bin
     expect "replayer with four names" 0 "all agree: 15 records" "" "$replayer" sheet.bin state.bin memory.bin trace.bin
     expect "replayer with names behind --" 0 "all agree: 15 records" "" "$replayer" -- -x state.bin memory.bin trace.bin
+    expect "replayer with an old state record" 0 "ten.bin: a state record of release 1, turned
+all agree: 15 records" "" "$replayer" sheet.bin ten.bin memory.bin trace.bin
+    expect "replayer with a bad old state record" 2 "" "refused: 1" "$replayer" sheet.bin ten-l.bin memory.bin trace.bin
     # shellcheck disable=SC2016 # the inner shell's words
     expect "replayer with nothing to replay" 0 "nothing to replay: the trace has no record" "" \
         sh -c '"$@" >told; ended=$?; tail -n 1 told; exit $ended' sh "$replayer" sheet.bin state.bin memory.bin empty.bin

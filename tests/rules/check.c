@@ -2,64 +2,21 @@
  * check PAGE...: makes the calls of the worked examples on the pages, and fails at the first line that is not what the library does.
  *
  * An example is a fenced block with the word "example"; docs/RULES.md, "Worked examples", says how it is read.  Also asked of all pages
- * together: an accepted example of every command, and one of every number but 35, which takes a trace of 2^30 octets.
+ * together: an accepted example of every command, one of every number but 35, which takes a trace of 2^30 octets, one of
+ * t24_turn done and refused, of t24_version and of a tolerated lost cycle.
  */
-#include <ctype.h>
-#include <stdio.h>
-#include <stdlib.h>
-#include <string.h>
+#include "lent.h"
 
-#include "type24.h"
+enum { NAMES = 8, SPOILT = 0xA5 };
 
-enum { ROOM = 70000, NAMES = 8, SPOILT = 0xA5 };
-
-struct octets {
-    size_t len;
-    uint8_t at[ROOM];
-};
-
-static struct octets sheet, state, memory, command, trace, reply, given, state_was, memory_was;
+static struct octets given, state_was, memory_was, old_was;
 static struct { char name[16]; struct octets octets; } named[NAMES];
 static struct octets *last;       /* what a line that begins with a blank goes on with */
 static int told, owes_state, owes_memory, owes_place; /* answers in this block; what no line has told of the last */
 static uint32_t owed_place;       /* of the last reply's answer */
 static size_t room;               /* of the reply */
 static char call[32];
-static int numbers[64], codes[256], answers, examples;
-static const char *page;
-static int line_number;
-
-static void fail(const char *why)
-{
-    fprintf(stderr, "rules: %s:%d: %s\n", page, line_number, why);
-    exit(1);
-}
-
-/* Octets of two digits with blanks between them; 00*27 is 27 of them. */
-static void read_octets(const char *text, struct octets *into)
-{
-    while (*text) {
-        size_t times = 1;
-        char *end;
-        const unsigned long octet = strtoul(text, &end, 16);
-        if (end != text + 2 || !isxdigit((unsigned char)*text))
-            fail("an octet has two digits");
-        if (*end == '*')
-            times = strtoul(end + 1, &end, 10);
-        if (*end && *end != ' ')
-            fail("no blank behind an octet");
-        if (times > ROOM - into->len)
-            fail("too many octets");
-        memset(into->at + into->len, (int)octet, times);
-        into->len += times;
-        text = end + strspn(end, " ");
-    }
-}
-
-static int same(const struct octets *a, const struct octets *b)
-{
-    return a->len == b->len && memcmp(a->at, b->at, a->len) == 0;
-}
+static int numbers[64], codes[256], turns[2], versions, tolerated, answers, examples;
 
 /* What no line has spoken of must be as before the call. */
 static void settle(void)
@@ -81,20 +38,11 @@ static uint64_t make_call(void)
     owes_state = owes_memory = 1;
     told++, answers++;
     memset(reply.at, SPOILT, sizeof reply.at);
-    if (!strcmp(call, "t24_sheet"))
-        return t24_sheet(sheet.at, sheet.len);
-    if (!strcmp(call, "t24_lengths"))
-        return t24_lengths(sheet.at, sheet.len);
-    if (!strcmp(call, "t24_reset"))
-        return t24_reset(sheet.at, sheet.len, state.at, state.len);
-    if (!strcmp(call, "t24_enable"))
-        return t24_enable(sheet.at, sheet.len, state.at, state.len);
-    if (!strcmp(call, "t24_exchange"))
-        return t24_exchange(sheet.at, sheet.len, state.at, state.len, memory.at, memory.len, command.at, command.len, reply.at, reply.len);
-    if (!strcmp(call, "t24_replay"))
-        return t24_replay(sheet.at, sheet.len, state.at, state.len, memory.at, memory.len, trace.at, trace.len);
-    fail("no such call");
-    return 0;
+    old_was = old;
+    const uint64_t answer = answer_of(call);
+    if (!same(&old, &old_was))
+        fail("the old record has changed");
+    return answer;
 }
 
 static void expect_answer(const char *text)
@@ -115,8 +63,12 @@ static void expect_answer(const char *text)
         for (size_t i = 0; i < sizeof reply.at; i++)
             if (reply.at[i] != SPOILT)
                 fail("a refused call has written to the reply");
-    if (strcmp(call, "t24_lengths") && number < 64)
+    if (strcmp(call, "t24_lengths") && strcmp(call, "t24_version") && number < 64)
         numbers[number] = 1;
+    if (!strcmp(call, "t24_turn"))
+        turns[number != T24_DONE] = 1;
+    if (!strcmp(call, "t24_version"))
+        versions++;
 }
 
 static void expect_octets(const char *what, const struct octets *have)
@@ -143,7 +95,8 @@ static void expect_reply(void)
     owes_place = 1;
     expect_octets("another reply", &reply);
     numbers[T24_DONE] = 1;
-    if (reply.at[3] % 16 == T24_ALARM_NONE)
+    tolerated += t24_reply_tolerated(reply.at);
+    if (reply.at[3] % 16 == T24_ALARM_NONE && !t24_reply_tolerated(reply.at))
         codes[reply.at[0]] = 1;
 }
 
@@ -186,7 +139,7 @@ static void name_sheet(const char *name, const char *text)
 static void take(const char *key, const char *text)
 {
     static const struct { const char *key; struct octets *octets; } inputs[] = {
-        {"sheet", &sheet}, {"state", &state}, {"memory", &memory}, {"command", &command}, {"trace", &trace}};
+        {"sheet", &sheet}, {"state", &state}, {"memory", &memory}, {"command", &command}, {"trace", &trace}, {"old", &old}};
 
     last = NULL;
     for (size_t i = 0; i < sizeof inputs / sizeof *inputs; i++)
@@ -247,7 +200,7 @@ static void take_line(char *line)
 
 static void begin(void)
 {
-    sheet.len = state.len = memory.len = command.len = trace.len = 0;
+    sheet.len = state.len = memory.len = command.len = trace.len = old.len = 0;
     call[0] = 0, told = 0, room = ROOM, last = NULL;
     examples++;
 }
@@ -294,6 +247,8 @@ int main(int argc, char **argv)
     for (int n = 0; n < 35; n++)
         if (!numbers[n] && (n <= 6 || (n >= 11 && n <= 17) || n >= 31))
             fail("a number without an example");
+    if (!turns[0] || !turns[1] || !versions || !tolerated)
+        fail("no example of t24_turn, refused or not, of t24_version, or of a tolerated lost cycle");
     printf("rules: %d answers in %d examples are the library's\n", answers, examples);
     return 0;
 }

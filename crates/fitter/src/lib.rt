@@ -23,14 +23,36 @@ fn replayed(sheet: &[u8], state: &mut [u8], memory: &mut [u8], trace: i32) {
     }
 }
 
-// The files whole, in room for one octet more than the longest that can be right, so that a longer one is refused as the longest would not be.
+// The replay from a state record of release 1, which is turned first; a line says so, or why it is refused.
+fn turned(sheet: &[u8], old: &[u8], memory: &mut [u8], trace: i32) {
+    let mut state = [0u8; 11];
+    let told = slave::turning::turn(sheet, old, &mut state);
+    if told.number != 0 {
+        words::print_refusal(told.number, told.place as u64);
+        return;
+    }
+    files::print_line(2, b"state.bin", b": a state record of release 1, turned\n");
+    replayed(sheet, &mut state, memory, trace);
+}
+
+// The files whole, in room for one octet more than the longest that can be right, so that a longer one is refused as the longest would not be. Ten
+// octets of state are release 1's.
 fn read_all(sheet: i32, state: i32, memory: i32, trace: i32) {
     let mut sheet_room = [0u8; 2049];
-    let mut state_room = [0u8; 11];
+    let mut state_room = [0u8; 12];
     let mut memory_room = [0u8; 65537];
     let a = files::read(sheet, 1, b"sheet.bin", &mut sheet_room);
     let b = files::read(state, 2, b"state.bin", &mut state_room);
     let c = files::read(memory, 3, b"memory.bin", &mut memory_room);
+    if b == 10 {
+        turned(
+            &sheet_room[..a],
+            &state_room[..b],
+            &mut memory_room[..c],
+            trace,
+        );
+        return;
+    }
     replayed(
         &sheet_room[..a],
         &mut state_room[..b],

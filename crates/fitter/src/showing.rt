@@ -1,5 +1,6 @@
 // A difference: the record, its command, why ours is refused or not executed if it is, and the two replies with a mark below the first octet in which they
 // differ.
+use sheet::walk::Verdict;
 
 // The marker line, below the digits of the octet.
 fn print_mark(octet: usize) {
@@ -19,6 +20,15 @@ fn print_replies(ours: &[u8], reply: &[u8], octet: usize) {
     print_mark(octet);
 }
 
+// How many lost cycles in a row the sheet tolerates. It was found valid before; asked here once more it need not be handed down through every pass.
+fn tolerance(sheet: &[u8]) -> u8 {
+    let verdict = sheet::walk::check(sheet);
+    let Verdict::Valid(layout) = verdict else {
+        return 0;
+    };
+    layout.tolerance
+}
+
 // Our reply, made once more in lent room: state and memory stand as before the record, and nothing uses them afterwards; what the watchdog
 // asks is seen first, since the exchange changes it.
 fn print_ours(
@@ -30,7 +40,7 @@ fn print_ours(
     octet: usize,
     room: &mut [u8],
 ) {
-    words::watchdog::print_failed(state, command);
+    words::watchdog::print_failed(state, command, tolerance(sheet));
     let told = slave::exchanging::exchange(sheet, state, memory, command, room);
     words::refused::print_refused(command, room, told.place);
     print_replies(room, reply, octet);

@@ -45,7 +45,7 @@ fn serve(sheet: &[u8], state: &mut [u8], memory: &mut [u8], command: &mut [u8], 
 
 // A slave on a valid sheet, from reset on, in lent room; there is room for every valid sheet.
 fn start(sheet: &[u8], layout: Layout, memory: &mut [u8], command: &mut [u8], reply: &mut [u8]) {
-    let mut state = [0u8; 10];
+    let mut state = [0u8; 11];
     slave::calls::reset(sheet, &mut state);
     slave::calls::enable(sheet, &mut state);
     let n = layout.memory as usize;
