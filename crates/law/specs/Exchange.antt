@@ -70,10 +70,7 @@ abbrev pub missed : List ℕ → List ℕ → Bool
 missed s c = eqb (link s) 3 && (eqb (mnKnown s) 1 && not (eqb (mn c) ((lastMn s + 1) % 16) && eqb (sn c) (rsn s)))
 
 unfoldable pub fateOf : Sheet → List ℕ → List ℕ → List ℕ → Fate
-fateOf h s m c =
-    when (missed s c)
-    (failing h s)
-    (passing (judged s (code c) (table h s m c)))
+fateOf h s m c = when (missed s c) (failing h s) (passing (judged s (code c) (table h s m c)))
 
 -- "An exchange that begins and ends in link 3 stores MN as known and adds 1 to RSN modulo 16, refused or not. .. On entry to link 3 MN is not known and
 -- RSN is 0; on leaving it those fields and dual become 0", and so does the count. `sent` is the command's MN

@@ -127,9 +127,6 @@ FewParameters ps = length ps ≤ 64
 abbrev pub FewItems : List Item → Type 0
 FewItems is = length is ≤ 32
 
-abbrev pub Once : List ℕ → Type 0
-Once ts = length ts ≤ 1
-
 -- "2,048 octets of sheet" follow: these are 1,959 at most. A sheet may have no region, no parameter and no ID item
 pub record WellFormed (h : Sheet) : Type 0 where
   pub l : FiveLengths (h .l)
@@ -145,4 +142,4 @@ pub record WellFormed (h : Sheet) : Type 0 where
   pub few-parameters : FewParameters (h .parameters)
   pub few-items : FewItems (h .items)
   pub tolerances : Every (λ n. n ≤ 3) (h .tolerances)
-  pub once : Once (h .tolerances)
+  pub once : length (h .tolerances) ≤ 1

@@ -40,22 +40,15 @@ failures s = octet s 10
 abbrev pub validWhen : Sheet → List ℕ → List Bool
 validWhen h s =
     -- links 0 to 3; "L is the sheet's"
-    leb (link s) 3
-    ∷ eqb (octet s 2) (h .l)
+    leb (link s) 3 ∷ eqb (octet s 2) (h .l)
     -- "dual transfer 0 or 1"; "MN known 0 or 1"; "last MN 0 to 15"; "RSN 0 to 15"
-    ∷ leb (dual s) 1
-    ∷ leb (mnKnown s) 1
-    ∷ leb (lastMn s) 15
-    ∷ leb (rsn s) 15
+    ∷ leb (dual s) 1 ∷ leb (mnKnown s) 1 ∷ leb (lastMn s) 15 ∷ leb (rsn s) 15
     -- "latched command alarm (0, 8, 9, 10, 12); latched communication alarm (0, 12)"
-    ∷ oneOf (commandLatch s) (0 ∷ 8 ∷ 9 ∷ 10 ∷ 12 ∷ [])
-    ∷ oneOf (communicationLatch s) (0 ∷ 12 ∷ [])
+    ∷ oneOf (commandLatch s) (0 ∷ 8 ∷ 9 ∷ 10 ∷ 12 ∷ []) ∷ oneOf (communicationLatch s) (0 ∷ 12 ∷ [])
     -- "com_time is nonzero exactly in links 2 and 3"
-    ∷ implies (leb 2 (link s)) (leb 1 (comTime s))
-    ∷ implies (leb (link s) 1) (eqb (comTime s) 0)
+    ∷ implies (leb 2 (link s)) (leb 1 (comTime s)) ∷ implies (leb (link s) 1) (eqb (comTime s) 0)
     -- "dual is 0 outside link 3 and dual 1 has com_time at least 2"
-    ∷ implies (not (eqb (link s) 3)) (eqb (dual s) 0)
-    ∷ implies (eqb (dual s) 1) (leb 2 (comTime s))
+    ∷ implies (not (eqb (link s) 3)) (eqb (dual s) 0) ∷ implies (eqb (dual s) 1) (leb 2 (comTime s))
     -- "the MN and RSN fields are zero outside link 3, last MN and RSN are zero when MN is not known"
     ∷ implies (not (eqb (link s) 3)) (eqb (mnKnown s) 0 && (eqb (lastMn s) 0 && eqb (rsn s) 0))
     ∷ implies (eqb (mnKnown s) 0) (eqb (lastMn s) 0 && eqb (rsn s) 0)
@@ -66,11 +59,8 @@ validWhen h s =
 -- "1 for .. a count above the sheet's"; "the count .., 0 outside link 3 and while MN is not known"
 abbrev pub newWhen : Sheet → List ℕ → List Bool
 newWhen h s =
-    eqb (length s) 11
-    ∷ eqb (octet s 0) 0x12
-    ∷ leb (failures s) (allows h)
-    ∷ implies (not (eqb (link s) 3)) (eqb (failures s) 0)
-    ∷ implies (eqb (mnKnown s) 0) (eqb (failures s) 0)
+    eqb (length s) 11 ∷ eqb (octet s 0) 0x12 ∷ leb (failures s) (allows h)
+    ∷ implies (not (eqb (link s) 3)) (eqb (failures s) 0) ∷ implies (eqb (mnKnown s) 0) (eqb (failures s) 0)
     ∷ validWhen h s
 
 unfoldable pub validState : Sheet → List ℕ → Bool
