@@ -131,6 +131,9 @@ fn disturb_with_old(rig: &mut Rig, random: &mut Random, plan: &Plan) -> Outcome 
 /// An old record, good or spoiled, with octets of any content for the new one.
 fn lend_old(rig: &mut Rig, random: &mut Random, plan: &Plan) {
     let mut old = old_of(&random_state(random, plan));
+    if random.chance(15) {
+        old = old_of(&plain_state(plan.pdu_length, DISABLED));
+    }
     let mut state = random.octets(LENGTH);
     match random.below(7) {
         0 => old = damaged_state(random, &old),

@@ -84,8 +84,8 @@ fn expect_failure(rig: &mut Rig, plan: &Plan, command: &[u8], wrong: Wrong) -> O
     Err(unexpected(rig, &state, "the failure expected"))
 }
 
-/// Commands that would stay in link 3, leave it, write, clear, or be refused.
-fn commands(plan: &Plan) -> [Vec<u8>; 9] {
+/// Commands that would stay in link 3, leave it, read, write, clear, or be refused.
+fn commands(plan: &Plan) -> [Vec<u8>; 12] {
     [
         build::command(plan, 0x00),
         build::command(plan, 0x0F),
@@ -94,7 +94,10 @@ fn commands(plan: &Plan) -> [Vec<u8>; 9] {
         build::connect(plan, 2, 1),
         build::alarm_mode(plan, 0x06, 0),
         build::alarm_mode(plan, 0x05, 0),
+        build::identity(plan, 0x80, 2, 3),
+        build::parameter(plan, 0x01, 0x0107, 8),
         build::parameter(plan, 0x02, 0x0107, 8),
+        build::memory(plan, 0x1D, memory_mode::octet(1), 3, 1),
         build::memory(plan, 0x1E, memory_mode::octet(1), 3, 1),
     ]
 }
