@@ -4,6 +4,16 @@
 
 #include "sheets.h"
 
+/* A count that the sheet allows, seldom one that it need not allow. */
+static uint8_t make_count(struct input *in, const struct parts *parts, uint8_t known)
+{
+    const uint8_t control = take(in);
+
+    if (control >= 0xC0)
+        return control % 5;
+    return known ? control % (parts->tolerance + 1u) : 0;
+}
+
 /* A state of any link, or any eleven octets, or another length. */
 static void make_state(struct input *in, struct parts *parts)
 {
@@ -23,7 +33,7 @@ static void make_state(struct input *in, struct parts *parts)
         state[5] = control >> 5 & 1;
         state[6] = state[5] ? take(in) & 15 : 0;
         state[7] = state[5] ? take(in) & 15 : 0;
-        state[10] = state[5] ? take(in) % (parts->tolerance + 1u) : 0;
+        state[10] = make_count(in, parts, state[5]);
     }
     state[8] = link ? latches[take(in) % 8] : 0;
     state[9] = link && take(in) & 1 ? 12 : 0;

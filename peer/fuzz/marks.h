@@ -26,6 +26,20 @@ static void mark_call(const char *call, uint64_t answer)
         fprintf(stderr, "mark %s_%u\n", call, number);
 }
 
+/* The faults of a tolerance: cut, out of range, out of place or a second one. */
+static void mark_tolerance(const uint8_t *sheet, size_t length, uint64_t answer)
+{
+    const unsigned number = answer & 0xFF;
+    const size_t place = (size_t)(answer >> 32);
+
+    if (!telling() || number == 0 || place >= length || sheet[place] != 6)
+        return;
+    if (number == 13 && place >= 2 && sheet[place - 2] == 6)
+        fprintf(stderr, "mark tolerance_twice\n");
+    else
+        fprintf(stderr, "mark tolerance_%u\n", number);
+}
+
 /* What failed a cycle that was lost or tolerated: MN, SN, or both. */
 static void mark_failed(const char *how, const uint8_t *before, uint8_t wdt)
 {
@@ -57,6 +71,14 @@ static void mark_count(uint8_t wdt, const uint8_t *reply, const uint8_t *before,
         mark_failed("tolerated", before, wdt);
     else if (before[10] > 0)
         fprintf(stderr, "mark %s_after_%u\n", how, before[10]);
+}
+
+/* A state that was refused for its count alone: past the sheet's, or with one
+ * outside link 3 or while MN is not known. */
+static void mark_bad_count(const uint8_t *state)
+{
+    if (telling())
+        fprintf(stderr, "mark bad_count_link_%u_known_%u\n", state[1], state[5]);
 }
 
 /* A turned record by its link, or what of a refused turn was wrong. */

@@ -194,7 +194,7 @@ static void make_tolerance(struct input *in, struct parts *parts)
     uint8_t control = take(in);
 
     if (control >= 0x40)
-        put_tolerance(parts, control < 0xE0 ? control & 3 : control);
+        put_tolerance(parts, control >> 4 == 0xE ? control : control & 3);
     if (control >= 0xF0)
         put_tolerance(parts, control & 7);
 }
