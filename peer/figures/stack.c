@@ -9,24 +9,26 @@
 #include <string.h>
 
 #define L 64u
-#define CALLS 6
+#define CALLS 7
 #define RECORD (1u + 2u * L)
+#define OLD_LEN 10u /* a state record from before request 9 */
 
 struct size {
     const char *name;
-    unsigned regions, parameters, items, size;
+    unsigned regions, parameters, items, size, tolerances;
 };
 
 static const struct size sizes[] = {
-    { "smallest", 0, 0, 0, 0 },   { "", 2, 2, 0, 4 },
-    { "", 4, 8, 2, 4 },           { "typical", 8, 16, 4, 4 },
-    { "", 16, 32, 8, 56 },        { "", 24, 48, 16, 56 },
-    { "largest", 32, 64, 32, 56 }
+    { "smallest", 0, 0, 0, 0, 0 }, { "", 2, 2, 0, 4, 0 },
+    { "", 4, 8, 2, 4, 0 },         { "typical", 8, 16, 4, 4, 0 },
+    { "", 16, 32, 8, 56, 0 },      { "", 24, 48, 16, 56, 0 },
+    { "largest", 32, 64, 32, 56, 1 }
 };
 #define SIZES (sizeof sizes / sizeof sizes[0])
 
 static struct built sheet;
 static uint8_t state[T24_STATE_LEN], memory[T24_MEMORY_MAX];
+static const uint8_t old[OLD_LEN] = { 0x11, 1, L }; /* Disconnected */
 static uint8_t command[L], reply[L];
 static uint8_t start[T24_STATE_LEN], trace[16 * RECORD];
 static size_t memory_len, trace_len;
@@ -45,6 +47,10 @@ static void build(const struct size *size)
         add_parameter(&sheet, i, 0x1000u + memory_len - 56, size->size);
     for (i = 0; i < size->items; i++)
         add_item(&sheet, i, 32);
+    if (size->tolerances > 0) {
+        sheet.octets[sheet.len++] = 6;
+        sheet.octets[sheet.len++] = 3;
+    }
     add_end(&sheet);
 }
 
@@ -64,6 +70,13 @@ static void ask_reset(void)
 static void ask_enable(void)
 {
     answer = t24_enable(sheet.octets, sheet.len, state, sizeof state);
+}
+
+/* What it leaves is what enable has left. */
+static void ask_turn(void)
+{
+    answer = t24_turn(sheet.octets, sheet.len, old, sizeof old, state,
+                      sizeof state);
 }
 
 /* The number alone: a place tells of a refused command, whose reply is built. */
@@ -156,8 +169,9 @@ static void measure(const struct size *size, double *used)
     used[1] = (double)(used_by(ask_lengths) - empty);
     used[2] = (double)(used_by(ask_reset) - empty);
     used[3] = (double)(used_by(ask_enable) - empty);
-    used[4] = (double)(used_by_exchange(size) - empty);
-    used[5] = (double)(used_by(ask_replay) - empty);
+    used[4] = (double)(used_by(ask_turn) - empty);
+    used[5] = (double)(used_by_exchange(size) - empty);
+    used[6] = (double)(used_by(ask_replay) - empty);
 }
 
 /* Least squares: octets for each record, and those for none. */
@@ -183,10 +197,11 @@ int main(void)
     size_t i;
     int call;
 
-    puts("| records | t24_sheet | t24_lengths | t24_reset | t24_enable | t24_exchange | t24_replay |");
-    puts("|---|---:|---:|---:|---:|---:|---:|");
+    puts("| records | t24_sheet | t24_lengths | t24_reset | t24_enable | t24_turn | t24_exchange | t24_replay |");
+    puts("|---|---:|---:|---:|---:|---:|---:|---:|");
     for (i = 0; i < SIZES; i++) {
-        records[i] = 2 + sizes[i].regions + sizes[i].parameters + sizes[i].items;
+        records[i] = 2 + sizes[i].regions + sizes[i].parameters + sizes[i].items
+                     + sizes[i].tolerances;
         measure(&sizes[i], used[i]);
         printf("| %.0f %s |", records[i], sizes[i].name);
         for (call = 0; call < CALLS; call++)

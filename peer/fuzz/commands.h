@@ -4,16 +4,27 @@
 
 #include "sheets.h"
 
-/* A state of any link, or any ten octets, or another length. */
+/* A count that the sheet allows, seldom one that it need not allow. */
+static uint8_t make_count(struct input *in, const struct parts *parts, uint8_t known)
+{
+    const uint8_t control = take(in);
+
+    if (control >= 0xC0)
+        return control % 5;
+    return known ? control % (parts->tolerance + 1u) : 0;
+}
+
+/* A state of any link, or any eleven octets, or another length. */
 static void make_state(struct input *in, struct parts *parts)
 {
     static const uint8_t latches[8] = {0, 0, 0, 0, 8, 9, 10, 12};
+    static const enum start starts[4] = {BY_RESET, BY_TURN, AS_IT_IS, AS_IT_IS};
     uint8_t control = take(in);
     uint8_t link = control & 3;
     uint8_t *state = parts->state;
 
-    parts->state_length = 10;
-    state[0] = 0x11;
+    parts->state_length = STATE_LENGTH;
+    state[0] = 0x12;
     state[1] = link;
     state[2] = parts->sheet[1];
     state[4] = link < 2 ? 0 : (uint8_t)(2 + (control >> 2 & 3));
@@ -22,12 +33,13 @@ static void make_state(struct input *in, struct parts *parts)
         state[5] = control >> 5 & 1;
         state[6] = state[5] ? take(in) & 15 : 0;
         state[7] = state[5] ? take(in) & 15 : 0;
+        state[10] = make_count(in, parts, state[5]);
     }
     state[8] = link ? latches[take(in) % 8] : 0;
     state[9] = link && take(in) & 1 ? 12 : 0;
-    parts->start_by_reset = control >> 6 == 0;
+    parts->start = starts[control >> 6];
     if (control >= 0xF8)
-        state[take(in) % 10] = take(in);
+        state[take(in) % STATE_LENGTH] = take(in);
     if (control >= 0xFE)
         parts->state_length = take(in) % 16;
 }
@@ -101,6 +113,19 @@ static void aim(struct input *in, const struct parts *parts, uint8_t *command)
     }
 }
 
+/* The record that a state was before request 9, seldom with another octet or
+ * another length; tells its length. */
+static size_t make_old(struct input *in, const uint8_t *state, uint8_t *old)
+{
+    const uint8_t control = take(in);
+
+    memcpy(old, state, STATE_LENGTH);
+    old[0] = control < 0xF0 ? 0x11 : 0x12;
+    if (control >= 0x80 && control < 0xC0)
+        old[control % OLD_LENGTH] = take(in);
+    return control < 0xC0 || control >= 0xE0 ? OLD_LENGTH : take(in) % 16;
+}
+
 /* Bit 2 gives the WDT that keeps link 3, with bit 3 its MN alone; bit 3 without
  * it gives its SN alone. */
 static uint8_t aim_wdt(uint8_t wdt, const uint8_t *state, uint8_t control)
@@ -134,7 +159,7 @@ static void make_command(struct input *in, const struct parts *parts,
         command[0] = codes[command[0] % 11];
     if (control & 2)
         aim(in, parts, command);
-    if (state_length == 10)
+    if (state_length == STATE_LENGTH)
         command[1] = aim_wdt(command[1], state, control);
 }
 

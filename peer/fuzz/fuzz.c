@@ -7,145 +7,20 @@
 #ifndef _DEFAULT_SOURCE
 #define _DEFAULT_SOURCE 1 /* mmap with MAP_ANONYMOUS is not plain C99 */
 #endif
+#include "calls.h"
 #include "commands.h"
-#include "lent.h"
-#include "marks.h"
+#include "rig.h"
 #include "sheets.h"
 #include "trace.h"
 
 #include <stddef.h>
 #include <stdint.h>
-#include <stdio.h>
-#include <stdlib.h>
 #include <string.h>
-
-#define ENGINE(name)                                                           \
-    uint64_t name##_sheet(const uint8_t *, size_t);                            \
-    uint64_t name##_lengths(const uint8_t *, size_t);                          \
-    uint64_t name##_reset(const uint8_t *, size_t, uint8_t *, size_t);         \
-    uint64_t name##_enable(const uint8_t *, size_t, uint8_t *, size_t);        \
-    uint64_t name##_exchange(const uint8_t *, size_t, uint8_t *, size_t,       \
-                             uint8_t *, size_t, const uint8_t *, size_t,       \
-                             uint8_t *, size_t);                               \
-    uint64_t name##_replay(const uint8_t *, size_t, uint8_t *, size_t,         \
-                           uint8_t *, size_t, const uint8_t *, size_t)
-
-ENGINE(t24);
-ENGINE(peer);
 
 int LLVMFuzzerTestOneInput(const uint8_t *octets, size_t length);
 int LLVMFuzzerInitialize(int *argc, char ***argv);
 
-enum { SIDES = 2, STEPS = 48 };
-
-/* What both engines are lent, once for each side. */
-static struct rig {
-    struct lent sheet[SIDES], state[SIDES], memory[SIDES];
-    struct lent command[SIDES], reply[SIDES], trace[SIDES];
-    int at_end; /* on which side of the buffers the untouchable pages are */
-} rig;
-
-static void fail(const char *what, uint64_t peer, uint64_t t24)
-{
-    fprintf(stderr, "difference in %s: peer %016llx, t24 %016llx\n", what,
-            (unsigned long long)peer, (unsigned long long)t24);
-    abort();
-}
-
-static void same(const char *what, const struct lent *sides)
-{
-    if (sides[0].length > 0
-        && memcmp(sides[0].octets, sides[1].octets, sides[0].length) != 0)
-        fail(what, 0, 0);
-    if (!lent_intact(&sides[0]) || !lent_intact(&sides[1]))
-        fail("octets outside", 0, 0);
-}
-
-static void check(const char *call, uint64_t peer, uint64_t t24)
-{
-    if (peer != t24)
-        fail(call, peer, t24);
-    same("sheet", rig.sheet);
-    same("state", rig.state);
-    same("memory", rig.memory);
-}
-
-static void lend_both(struct lent *sides, const uint8_t *octets, size_t length)
-{
-    lent_make(&sides[0], octets, length, rig.at_end);
-    lent_make(&sides[1], octets, length, rig.at_end);
-}
-
-#define SHEET(side) rig.sheet[side].octets, rig.sheet[side].length
-#define STATE(side) rig.state[side].octets, rig.state[side].length
-#define MEMORY(side) rig.memory[side].octets, rig.memory[side].length
-#define COMMAND(side) rig.command[side].octets, rig.command[side].length
-#define REPLY(side) rig.reply[side].octets, rig.reply[side].length
-#define TRACE(side) rig.trace[side].octets, rig.trace[side].length
-
-static void ask_sheet(void)
-{
-    const uint64_t peer = peer_sheet(SHEET(0));
-
-    check("sheet", peer, t24_sheet(SHEET(1)));
-    check("lengths", peer_lengths(SHEET(0)), t24_lengths(SHEET(1)));
-    mark_call("sheet", peer);
-}
-
-static void reset(void)
-{
-    const uint64_t peer = peer_reset(SHEET(0), STATE(0));
-
-    check("reset", peer, t24_reset(SHEET(1), STATE(1)));
-    mark_call("reset", peer);
-}
-
-static void enable(void)
-{
-    const uint64_t peer = peer_enable(SHEET(0), STATE(0));
-
-    check("enable", peer, t24_enable(SHEET(1), STATE(1)));
-    mark_call("enable", peer);
-}
-
-static void exchange(const uint8_t *octets, size_t length, size_t reply_length)
-{
-    uint8_t old[256], before[10] = {0};
-    uint64_t peer, t24;
-
-    memset(old, 0x5A, sizeof old);
-    lend_both(rig.command, octets, length);
-    lend_both(rig.reply, old, reply_length);
-    if (rig.state[0].length == sizeof before)
-        memcpy(before, rig.state[0].octets, sizeof before);
-    keep_start(STATE(0), MEMORY(0));
-    peer = peer_exchange(SHEET(0), STATE(0), MEMORY(0), COMMAND(0), REPLY(0));
-    t24 = t24_exchange(SHEET(1), STATE(1), MEMORY(1), COMMAND(1), REPLY(1));
-    check("exchange", peer, t24);
-    same("command", rig.command);
-    same("reply", rig.reply);
-    mark_call("exchange", peer);
-    if ((uint32_t)peer != 0) /* a place tells of a command in a built reply */
-        return;
-    mark_exchange(octets, rig.reply[0].octets, length, before,
-                  rig.state[0].octets[1]);
-    mark_place(octets[0], rig.reply[0].octets[3] & 15, peer >> 32);
-    keep_record(octets, rig.reply[0].octets, length);
-}
-
-/* Replays a trace from the state and memory that are lent. */
-static uint64_t replay(const uint8_t *trace, size_t length)
-{
-    uint64_t peer, t24;
-
-    lend_both(rig.trace, trace, length);
-    peer = peer_replay(SHEET(0), STATE(0), MEMORY(0), TRACE(0));
-    t24 = t24_replay(SHEET(1), STATE(1), MEMORY(1), TRACE(1));
-    check("replay", peer, t24);
-    same("trace", rig.trace);
-    mark_call("replay", peer);
-    return peer;
-}
+enum { STEPS = 48 };
 
 /* Replays from where the kept trace starts, and then goes on as before. */
 static void replay_kept(const uint8_t *trace, size_t length, int whole)
@@ -204,6 +79,19 @@ static void poke(struct input *in)
         rig.state[side].octets[at % rig.state[side].length] = octet;
 }
 
+/* The record that the state was, good or spoiled, into eleven octets or others. */
+static void turn_step(struct input *in)
+{
+    uint8_t state[STATE_LENGTH] = {0}, old[16] = {0};
+    const uint8_t control = take(in);
+    size_t length;
+
+    if (rig.state[0].length == sizeof state)
+        memcpy(state, rig.state[0].octets, sizeof state);
+    length = make_old(in, state, old);
+    turn(old, length, control < 0xE0 ? STATE_LENGTH : take(in) % 16);
+}
+
 static void exchange_step(struct input *in, const struct parts *parts,
                           uint8_t control)
 {
@@ -244,6 +132,10 @@ static void step(struct input *in, const struct parts *parts)
     case 0xE4:
         replay_step(in);
         break;
+    case 0xE5:
+        end_trace();
+        turn_step(in);
+        break;
     default:
         exchange_step(in, parts, control);
     }
@@ -269,11 +161,13 @@ static void lend_all(struct input *in, struct parts *parts)
 
 int LLVMFuzzerInitialize(int *argc, char ***argv)
 {
-    struct lent *all[] = {rig.sheet,   rig.state, rig.memory,
-                          rig.command, rig.reply, rig.trace};
+    struct lent *all[] = {rig.sheet, rig.state, rig.memory, rig.command,
+                          rig.reply, rig.trace, rig.old};
 
     (void)argc;
     (void)argv;
+    if (peer_version() != t24_version())
+        fail("the version", peer_version(), t24_version());
     for (size_t role = 0; role < sizeof all / sizeof all[0]; role++)
         for (int side = 0; side < SIDES; side++)
             lent_open(&all[role][side]);
@@ -288,9 +182,13 @@ int LLVMFuzzerTestOneInput(const uint8_t *octets, size_t length)
     lend_all(&in, &parts);
     keep_nothing();
     ask_sheet();
-    if (parts.start_by_reset) {
+    if (parts.start == BY_RESET) {
         reset();
         enable();
+    }
+    if (parts.start == BY_TURN) {
+        parts.state[0] = 0x11;
+        turn(parts.state, OLD_LENGTH, STATE_LENGTH);
     }
     for (int count = 0; count < STEPS && in.left > 0; count++)
         step(&in, &parts);

@@ -8,6 +8,10 @@
 #include <string.h>
 
 enum { SHEET_ROOM = 4200, MEMORY_LIMIT = 65536 };
+/* Octets of a state record, and of one from before request 9. */
+enum { STATE_LENGTH = 11, OLD_LENGTH = 10 };
+/* How the state of an input comes to be. */
+enum start { AS_IT_IS, BY_RESET, BY_TURN };
 
 struct input {
     const uint8_t *octets;
@@ -19,7 +23,7 @@ struct parts {
     size_t sheet_length;
     uint8_t state[16];
     size_t state_length;
-    int start_by_reset;
+    enum start start;
     /* What the sheet was built from, for commands that hit it. */
     uint32_t starts[64];
     size_t regions;
@@ -28,6 +32,7 @@ struct parts {
     size_t parameters;
     uint8_t codes[40];
     size_t items;
+    uint8_t tolerance;
 };
 
 static const uint8_t LENGTHS[5] = {8, 16, 32, 48, 64};
@@ -89,6 +94,13 @@ static void put_item(struct parts *parts, uint8_t code, uint8_t length,
     put(parts, length, 1);
     for (int at = 0; at < 32; at++)
         put(parts, at < length ? (uint8_t)(first + at) : 0, 1);
+}
+
+static void put_tolerance(struct parts *parts, uint8_t failures)
+{
+    parts->tolerance = failures & 3;
+    put(parts, 6, 1);
+    put(parts, failures, 1);
 }
 
 /* Sheets that short inputs can use: so many records of each kind, regions one
@@ -176,6 +188,17 @@ static void make_items(struct input *in, struct parts *parts)
     }
 }
 
+/* None, a good one, one out of range, or two. */
+static void make_tolerance(struct input *in, struct parts *parts)
+{
+    uint8_t control = take(in);
+
+    if (control >= 0x40)
+        put_tolerance(parts, control >> 4 == 0xE ? control : control & 3);
+    if (control >= 0xF0)
+        put_tolerance(parts, control & 7);
+}
+
 static void damage(struct input *in, struct parts *parts)
 {
     uint8_t control = take(in);
@@ -211,10 +234,13 @@ static void make_sheet(struct input *in, struct parts *parts)
     put(parts, take_16(in), 2);
     if (control < 0x80) {
         make_plan(parts, &PLANS[control % PLAN_COUNT]);
+        if (control & 0x40)
+            put_tolerance(parts, control >> 3 & 3);
     } else {
         make_regions(in, parts);
         make_parameters(in, parts);
         make_items(in, parts);
+        make_tolerance(in, parts);
     }
     put(parts, 0, 1);
     damage(in, parts);

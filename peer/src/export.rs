@@ -27,9 +27,10 @@ pub unsafe fn lent_mut<'a>(octets: *mut u8, length: usize) -> &'a mut [u8] {
     }
 }
 
-/// Exports `$engine`'s functions: sheet, lengths, reset, enable, exchange, replay.
+/// Exports `$engine`'s functions: sheet, lengths, reset, enable, turn, exchange, replay, version.
 macro_rules! export {
-    ($engine:path: $sheet:ident $lengths:ident $reset:ident $enable:ident $exchange:ident $replay:ident) => {
+    ($engine:path: $sheet:ident $lengths:ident $reset:ident $enable:ident $turn:ident $exchange:ident $replay:ident
+     $version:ident) => {
         use $crate::export::{lent, lent_mut};
         use $engine as exported;
 
@@ -61,6 +62,22 @@ macro_rules! export {
             state_length: usize,
         ) -> u64 {
             exported::enable(lent(sheet, sheet_length), lent_mut(state, state_length))
+        }
+
+        #[no_mangle]
+        pub unsafe extern "C" fn $turn(
+            sheet: *const u8,
+            sheet_length: usize,
+            old: *const u8,
+            old_length: usize,
+            state: *mut u8,
+            state_length: usize,
+        ) -> u64 {
+            exported::turn(
+                lent(sheet, sheet_length),
+                lent(old, old_length),
+                lent_mut(state, state_length),
+            )
         }
 
         #[no_mangle]
@@ -102,6 +119,11 @@ macro_rules! export {
                 lent_mut(memory, memory_length),
                 lent(trace, trace_length),
             )
+        }
+
+        #[no_mangle]
+        pub extern "C" fn $version() -> u64 {
+            exported::version()
         }
     };
 }

@@ -10,6 +10,14 @@ extern "C" {
     fn t24_lengths(sheet: *const u8, sheet_len: usize) -> u64;
     fn t24_reset(sheet: *const u8, sheet_len: usize, state: *mut u8, state_len: usize) -> u64;
     fn t24_enable(sheet: *const u8, sheet_len: usize, state: *mut u8, state_len: usize) -> u64;
+    fn t24_turn(
+        sheet: *const u8,
+        sheet_len: usize,
+        old: *const u8,
+        old_len: usize,
+        state: *mut u8,
+        state_len: usize,
+    ) -> u64;
     fn t24_exchange(
         sheet: *const u8,
         sheet_len: usize,
@@ -32,6 +40,7 @@ extern "C" {
         trace: *const u8,
         trace_len: usize,
     ) -> u64;
+    fn t24_version() -> u64;
 }
 
 /// The engine of the archive.
@@ -40,8 +49,10 @@ pub const T24: Engine = Engine {
     lengths,
     reset,
     enable,
+    turn,
     exchange,
     replay,
+    version,
 };
 
 fn sheet(sheet: &[u8]) -> u64 {
@@ -58,6 +69,19 @@ fn reset(sheet: &[u8], state: &mut [u8]) -> u64 {
 
 fn enable(sheet: &[u8], state: &mut [u8]) -> u64 {
     unsafe { t24_enable(sheet.as_ptr(), sheet.len(), state.as_mut_ptr(), state.len()) }
+}
+
+fn turn(sheet: &[u8], old: &[u8], state: &mut [u8]) -> u64 {
+    unsafe {
+        t24_turn(
+            sheet.as_ptr(),
+            sheet.len(),
+            old.as_ptr(),
+            old.len(),
+            state.as_mut_ptr(),
+            state.len(),
+        )
+    }
 }
 
 fn exchange(
@@ -96,4 +120,8 @@ fn replay(sheet: &[u8], state: &mut [u8], memory: &mut [u8], trace: &[u8]) -> u6
             trace.len(),
         )
     }
+}
+
+fn version() -> u64 {
+    unsafe { t24_version() }
 }

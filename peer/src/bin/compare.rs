@@ -3,6 +3,8 @@
 //!
 //! compare [EXCHANGES] [SEED] [--progress] [--blocks]
 //!
+//! An archive of another version is refused at the start, with both versions.
+//!
 //! --blocks is for a checker of memory: the archive is lent each buffer in a
 //! block of its own, and the directed trials, which are millions, are left out.
 #![deny(warnings)]
@@ -10,6 +12,7 @@
 use peer::crash::report_crashes;
 use peer::t24::T24;
 use peer::trial::call::Call;
+use peer::trial::engines::PEER;
 use peer::trial::guarded::Guarded;
 use peer::trial::probe::Outcome;
 use peer::trial::progress::Progress;
@@ -63,6 +66,17 @@ fn trials(blocks: bool) -> (Buffer, Trials) {
     }
 }
 
+/// What the archive's version differs in from the one that these trials are for.
+fn other_version() -> Option<String> {
+    let (asked, told) = ((PEER.version)(), (T24.version)());
+    if asked == told {
+        return None;
+    }
+    Some(format!(
+        "difference: the version, as the archive is of version {told} and compare is for version {asked}\norigin         the version"
+    ))
+}
+
 fn main() -> ExitCode {
     let options = match options() {
         Some(options) => options,
@@ -72,6 +86,10 @@ fn main() -> ExitCode {
         }
     };
     println!("seed {}", options.seed);
+    if let Some(words) = other_version() {
+        println!("{words}");
+        return ExitCode::FAILURE;
+    }
     report_crashes();
     let (buffer, trials) = trials(options.blocks);
     let mut rig = Rig::lending(T24, buffer);

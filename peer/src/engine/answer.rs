@@ -1,6 +1,6 @@
 //! What a call tells: a number of document 01's table, and a place.
 
-/// State record of wrong length or not valid.
+/// State record of wrong length or not valid, an old one where it is turned too.
 pub const STATE: u32 = 1;
 /// Memory length not the sum of the regions.
 pub const MEMORY: u32 = 2;

@@ -15,17 +15,17 @@ const P: [u8; 33] = [
 ];
 const MEMORY: [u8; 8] = [0x0A, 0x0B, 0x0C, 0x0D, 0x0E, 0x0F, 0x10, 0x11];
 /// State A.
-const A: [u8; 10] = [0x11, 2, 0x10, 0, 1, 0, 0, 0, 0, 0];
+const A: [u8; 11] = [0x12, 2, 0x10, 0, 1, 0, 0, 0, 0, 0, 0];
 
 /// Starts from a state and the bench's memory, with old octets in the reply.
-fn bench(state: [u8; 10], command: [u8; 16]) -> (u64, [u8; 16], [u8; 10], [u8; 8]) {
+fn bench(state: [u8; 11], command: [u8; 16]) -> (u64, [u8; 16], [u8; 11], [u8; 8]) {
     let (mut state, mut memory, mut reply) = (state, MEMORY, [0xEE; 16]);
     let answer = exchange(&P, &mut state, &mut memory, &command, &mut reply);
     (answer, reply, state, memory)
 }
 
 /// The state with another octet or two.
-fn with(state: [u8; 10], changes: &[(usize, u8)]) -> [u8; 10] {
+fn with(state: [u8; 11], changes: &[(usize, u8)]) -> [u8; 11] {
     let mut changed = state;
     for &(at, octet) in changes {
         changed[at] = octet;
@@ -128,7 +128,7 @@ fn case_8_parameter_seven() {
 
 #[test]
 fn case_9_dual_transfer_needs_two_cycles() {
-    let start = [0x11, 1, 0x10, 0, 0, 0, 0, 0, 0, 0];
+    let start = [0x12, 1, 0x10, 0, 0, 0, 0, 0, 0, 0, 0];
     let asked = command(&[0x0E, 0, 0, 0, 0x30, 6, 1, 0]);
     let told = refused(0x0E, 0, [5, 9]);
     let after = with(start, &[(8, 9)]);
@@ -166,11 +166,11 @@ fn case_11_sheets_cut_and_too_long() {
 
 #[test]
 fn the_bench_program_prints_its_two_lines() {
-    let (mut state, mut memory) = ([0xEE; 10], [0; 8]);
+    let (mut state, mut memory) = ([0xEE; 11], [0; 8]);
     assert_eq!(reset(&P, &mut state), 0);
-    assert_eq!(state, [0x11, 0, 0x10, 0, 0, 0, 0, 0, 0, 0]);
+    assert_eq!(state, [0x12, 0, 0x10, 0, 0, 0, 0, 0, 0, 0, 0]);
     assert_eq!(enable(&P, &mut state), 0);
-    assert_eq!(state, [0x11, 1, 0x10, 0, 0, 0, 0, 0, 0, 0]);
+    assert_eq!(state, [0x12, 1, 0x10, 0, 0, 0, 0, 0, 0, 0, 0]);
     let commands = [command(&[]), command(&[0x0E, 0, 0, 0, 0x30, 0, 1, 0])];
     let lines = [
         "00000400000000000000000000000000",
@@ -182,6 +182,6 @@ fn the_bench_program_prints_its_two_lines() {
         let printed: String = reply.iter().map(|octet| format!("{octet:02X}")).collect();
         assert_eq!((answer, printed.as_str()), (0, line));
     }
-    assert_eq!(state, [0x11, 2, 0x10, 0, 1, 0, 0, 0, 0, 0]);
+    assert_eq!(state, [0x12, 2, 0x10, 0, 1, 0, 0, 0, 0, 0, 0]);
     assert_eq!(memory, [0; 8]);
 }

@@ -8,6 +8,8 @@ use super::state::{Link, State};
 const LONGEST: usize = 64;
 /// Status bit 0: a latch is nonzero.
 const LATCHED: u8 = 1;
+/// Status bit 1: the cycle failed, and the sheet allows it (request 9).
+const TOLERATED: u8 = 2;
 /// Status bit 2: ready for a new command.
 const READY: u8 = 4;
 /// Bits 6 and 7 of octet 2, by which a master tells the replies to a repeated command apart.
@@ -43,23 +45,27 @@ pub fn decide(sheet: &Sheet, before: State, memory: &[u8], command: &[u8]) -> Ou
         reply: [0; LONGEST],
         write: None,
     };
-    let mut alarm = 0;
-    if before.misses(command[1]) {
-        outcome.state = before.cycle_lost();
-    } else {
+    let (mut alarm, mut tolerated) = (0, 0);
+    if !before.misses(command[1]) {
+        outcome.state = before.in_step();
         match judge(sheet, &before, command) {
             Ok(act) => perform(act, &mut outcome, memory, command),
             Err(refused) => {
                 alarm = refused.alarm;
-                outcome.state = before.with_alarm(alarm);
+                outcome.state = outcome.state.with_alarm(alarm);
                 outcome.place = refused.place;
             }
         }
+    } else if before.failures() < sheet.tolerance() {
+        outcome.state = before.failure_tolerated();
+        tolerated = TOLERATED;
+    } else {
+        outcome.state = before.cycle_lost();
     }
     if before.link == Link::SyncConnected && outcome.state.link == Link::SyncConnected {
         outcome.state = outcome.state.counted(mn);
     }
-    write_head(&mut outcome, command, alarm);
+    write_head(&mut outcome, command, tolerated, alarm);
     outcome
 }
 
@@ -107,7 +113,7 @@ fn connect(before: State, com_mod: u8, com_time: u8) -> State {
 }
 
 /// Code, RWDT and status; every reply gets its head here, so the identity is echoed in each.
-fn write_head(outcome: &mut Outcome, command: &[u8], alarm: u8) {
+fn write_head(outcome: &mut Outcome, command: &[u8], tolerated: u8, alarm: u8) {
     let state = &outcome.state;
     let reply = &mut outcome.reply;
     reply[0] = command[0];
@@ -116,6 +122,6 @@ fn write_head(outcome: &mut Outcome, command: &[u8], alarm: u8) {
         reply[1] = rsn << 4 | command[1] & 15;
     }
     let latched = if state.latched() { LATCHED } else { 0 };
-    reply[2] = READY | latched | command[2] & IDENTITY;
+    reply[2] = READY | latched | tolerated | command[2] & IDENTITY;
     reply[3] = state.communication_latch << 4 | alarm;
 }

@@ -6,17 +6,17 @@ use super::{exchange, replay};
 /// L 16, version 3, profile 4; four octets that link 2 may read but not write.
 const SHEET: [u8; 15] = [1, 16, 3, 4, 2, 0, 0, 0, 0, 4, 0, 0, 0, 5, 0];
 const MEMORY: [u8; 4] = [0x31, 0x32, 0x33, 0x34];
-const ASYNC: [u8; 10] = [0x11, 2, 16, 0, 5, 0, 0, 0, 0, 0];
-const SYNC: [u8; 10] = [0x11, 3, 16, 1, 5, 1, 7, 4, 0, 0];
-const DISCONNECTED: [u8; 10] = [0x11, 1, 16, 0, 0, 0, 0, 0, 0, 0];
+const ASYNC: [u8; 11] = [0x12, 2, 16, 0, 5, 0, 0, 0, 0, 0, 0];
+const SYNC: [u8; 11] = [0x12, 3, 16, 1, 5, 1, 7, 4, 0, 0, 0];
+const DISCONNECTED: [u8; 11] = [0x12, 1, 16, 0, 0, 0, 0, 0, 0, 0, 0];
 /// The WDT that `SYNC` asks for, and two that lose the cycle, by MN and by SN.
 const NEXT: u8 = 0x48;
 const LOST: [u8; 2] = [0x49, 0x58];
 
 /// Reply, state and memory after one exchange over old octets.
-type Left = ([u8; 16], [u8; 10], [u8; 4]);
+type Left = ([u8; 16], [u8; 11], [u8; 4]);
 
-fn after(state: [u8; 10], command: &[u8; 16]) -> Left {
+fn after(state: [u8; 11], command: &[u8; 16]) -> Left {
     let (mut state, mut memory, mut reply) = (state, MEMORY, [0xEE; 16]);
     let answer = exchange(&SHEET, &mut state, &mut memory, command, &mut reply);
     assert_eq!(answer as u32, 0);
@@ -35,7 +35,7 @@ fn memory_command(code: u8, wdt: u8) -> [u8; 16] {
 
 /// Every octet 2 with every octet 3: the status without identity is the one
 /// expected, and the rest is what zeros in both octets give.
-fn echoes_alone(state: [u8; 10], command: [u8; 16], status: [u8; 2]) {
+fn echoes_alone(state: [u8; 11], command: [u8; 16], status: [u8; 2]) {
     let zero = after(state, &command);
     assert_eq!(zero.0[2..4], status);
     for control in 0..=u16::MAX {
@@ -80,7 +80,7 @@ fn a_lost_cycle_gives_the_identity_back() {
 #[test]
 fn the_identity_stands_beside_both_latches() {
     let mut latched = ASYNC;
-    latched[8..].copy_from_slice(&[10, 12]);
+    latched[8..10].copy_from_slice(&[10, 12]);
     echoes_alone(latched, command(&[0x00]), [5, 0xC0]);
     echoes_alone(latched, command(&[0x06]), [4, 0]);
     echoes_alone(latched, command(&[0x77]), [5, 0xC8]);

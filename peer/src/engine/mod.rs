@@ -1,5 +1,5 @@
 //! The slave on byte slices, as document 01 ("What we are to build") rules,
-//! with requests 1, 3, 5, 6 and 8 of document 02.
+//! with requests 1, 3, 5, 6, 8 and 9 of document 02.
 //!
 //! Each call answers number + 2^32 × place. A call with a number other than 0
 //! has written nothing, except a replay's difference (34), which has replayed
@@ -30,6 +30,10 @@ mod rule_tests;
 #[cfg(test)]
 mod sheet_tests;
 #[cfg(test)]
+mod tolerance_tests;
+#[cfg(test)]
+mod turn_tests;
+#[cfg(test)]
 mod watchdog_tests;
 
 use answer::{refuse, Answer};
@@ -49,7 +53,12 @@ pub fn lengths(sheet: &[u8]) -> u64 {
     }
 }
 
-/// Writes Disabled with the sheet's L and zeros into ten octets of any content.
+/// Of the calls and their records: 2 since the state record has eleven octets.
+pub fn version() -> u64 {
+    2
+}
+
+/// Writes Disabled with the sheet's L and zeros into eleven octets of any content.
 pub fn reset(sheet: &[u8], state: &mut [u8]) -> u64 {
     tell(try_reset(sheet, state))
 }
@@ -57,6 +66,11 @@ pub fn reset(sheet: &[u8], state: &mut [u8]) -> u64 {
 /// Turns Disabled into Disconnected.
 pub fn enable(sheet: &[u8], state: &mut [u8]) -> u64 {
     tell(try_enable(sheet, state))
+}
+
+/// Turns a state record from before request 9 into one of now, in eleven octets of any content.
+pub fn turn(sheet: &[u8], old: &[u8], state: &mut [u8]) -> u64 {
+    tell(try_turn(sheet, old, state))
 }
 
 /// Builds the reply to one command; the place is that of a refused command (request 3).
@@ -101,11 +115,22 @@ fn try_reset(sheet: &[u8], state: &mut [u8]) -> Result<(), Answer> {
 
 fn try_enable(sheet: &[u8], state: &mut [u8]) -> Result<(), Answer> {
     let sheet = Sheet::read(sheet)?;
-    let before = State::read(state, sheet.pdu_length()).ok_or_else(|| refuse(answer::STATE))?;
+    let before = State::read(state, &sheet).ok_or_else(|| refuse(answer::STATE))?;
     if before.link != Link::Disabled {
         return Err(refuse(answer::NOT_DISABLED));
     }
     before.enabled().write(state);
+    Ok(())
+}
+
+/// "1 for a bad old record or another length than eleven."
+fn try_turn(sheet: &[u8], old: &[u8], state: &mut [u8]) -> Result<(), Answer> {
+    let sheet = Sheet::read(sheet)?;
+    let turned = State::read_old(old, &sheet).ok_or_else(|| refuse(answer::STATE))?;
+    if state.len() != state::LENGTH {
+        return Err(refuse(answer::STATE));
+    }
+    turned.write(state);
     Ok(())
 }
 
@@ -117,7 +142,7 @@ fn try_exchange(
     reply: &mut [u8],
 ) -> Result<Answer, Answer> {
     let sheet = Sheet::read(sheet)?;
-    let before = State::read(state, sheet.pdu_length()).ok_or_else(|| refuse(answer::STATE))?;
+    let before = State::read(state, &sheet).ok_or_else(|| refuse(answer::STATE))?;
     let pdu_length = usize::from(sheet.pdu_length());
     if memory.len() != sheet.memory_length() {
         return Err(refuse(answer::MEMORY));

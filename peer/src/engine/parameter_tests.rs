@@ -5,8 +5,8 @@ use super::{exchange, sheet};
 
 /// L 16; a parameter of at most 8 octets has room.
 const LINK: [u8; 4] = [1, 16, 3, 4];
-const ASYNC: [u8; 10] = [0x11, 2, 16, 0, 5, 0, 0, 0, 0, 0];
-const SYNC: [u8; 10] = [0x11, 3, 16, 1, 5, 1, 7, 4, 0, 0];
+const ASYNC: [u8; 11] = [0x12, 2, 16, 0, 5, 0, 0, 0, 0, 0, 0];
+const SYNC: [u8; 11] = [0x12, 3, 16, 1, 5, 1, 7, 4, 0, 0, 0];
 /// The WDT that `SYNC` asks for.
 const NEXT: u8 = 0x48;
 const SPAN_FAULT: u64 = 17;
@@ -37,7 +37,7 @@ fn mapped(parts: &[Part]) -> Vec<(u64, u8)> {
 }
 
 /// Alarm, data and memory of one command on parameter 7, over octets that are their addresses.
-fn after(sheet: &[u8], parts: &[Part], state: [u8; 10], head: [u8; 7]) -> (u8, [u8; 8], Vec<u8>) {
+fn after(sheet: &[u8], parts: &[Part], state: [u8; 11], head: [u8; 7]) -> (u8, [u8; 8], Vec<u8>) {
     let mut memory: Vec<u8> = mapped(parts).iter().map(|&(at, _)| at as u8).collect();
     let (mut state, mut reply, mut command) = (state, [0xEE; 16], [0xD7; 16]);
     command[..7].copy_from_slice(&head);
@@ -49,7 +49,7 @@ fn after(sheet: &[u8], parts: &[Part], state: [u8; 10], head: [u8; 7]) -> (u8, [
 }
 
 /// The alarm of PRM_RD or PRM_WR in link 2 or 3.
-fn alarm(parts: &[Part], address: u64, size: u8, code: u8, state: [u8; 10]) -> u8 {
+fn alarm(parts: &[Part], address: u64, size: u8, code: u8, state: [u8; 11]) -> u8 {
     let octets = sheet_of(parts, address, size);
     after(&octets, parts, state, [code, NEXT, 0, 0, 7, 0, size]).0
 }

@@ -36,9 +36,9 @@ fn sheet(pdu_length: u8) -> Vec<u8> {
 }
 
 /// The record with this L.
-fn record(pdu_length: u8, state: [u8; 8]) -> [u8; 10] {
-    let mut record = [0x11, state[0], pdu_length, 0, 0, 0, 0, 0, 0, 0];
-    record[3..].copy_from_slice(&state[1..]);
+fn record(pdu_length: u8, state: [u8; 8]) -> [u8; 11] {
+    let mut record = [0x12, state[0], pdu_length, 0, 0, 0, 0, 0, 0, 0, 0];
+    record[3..10].copy_from_slice(&state[1..]);
     record
 }
 

@@ -67,7 +67,7 @@ pub fn replay(
 ) -> Result<Answer, Answer> {
     let sheet = Sheet::read(sheet)?;
     let pdu_length = sheet.pdu_length();
-    let mut current = State::read(state, pdu_length).ok_or_else(|| refuse(answer::STATE))?;
+    let mut current = State::read(state, &sheet).ok_or_else(|| refuse(answer::STATE))?;
     if memory.len() != sheet.memory_length() {
         return Err(refuse(answer::MEMORY));
     }

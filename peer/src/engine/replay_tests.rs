@@ -6,15 +6,15 @@ use super::{exchange, replay};
 const SHEET: [u8; 15] = [1, 8, 0, 0, 2, 0, 0, 0, 0, 1, 0, 0, 0, 7, 0];
 /// L 16, four octets.
 const WIDE: [u8; 15] = [1, 16, 0, 0, 2, 0, 0, 0, 0, 4, 0, 0, 0, 7, 0];
-const CONNECTED: [u8; 10] = [0x11, 2, 8, 0, 1, 0, 0, 0, 0, 0];
-const WIDE_CONNECTED: [u8; 10] = [0x11, 2, 16, 0, 1, 0, 0, 0, 0, 0];
+const CONNECTED: [u8; 11] = [0x12, 2, 8, 0, 1, 0, 0, 0, 0, 0, 0];
+const WIDE_CONNECTED: [u8; 11] = [0x12, 2, 16, 0, 1, 0, 0, 0, 0, 0, 0];
 
 fn packed(number: u64, place: u64) -> u64 {
     number | place << 32
 }
 
 /// The trace, end state and end memory of these commands.
-fn record(sheet: &[u8], kind: u8, state: [u8; 10], commands: &[Vec<u8>]) -> (Vec<u8>, [u8; 10]) {
+fn record(sheet: &[u8], kind: u8, state: [u8; 11], commands: &[Vec<u8>]) -> (Vec<u8>, [u8; 11]) {
     let (mut trace, mut state, mut memory) = (Vec::new(), state, vec![0; usize::from(sheet[9])]);
     for command in commands {
         let mut reply = vec![0; command.len()];
@@ -45,7 +45,7 @@ fn agreeing_records_are_counted_and_stored() {
 fn an_empty_trace_agrees_unless_disabled() {
     let (mut state, mut memory) = (CONNECTED, [0]);
     assert_eq!(replay(&SHEET, &mut state, &mut memory, &[]), 0);
-    let mut disabled = [0x11, 0, 8, 0, 0, 0, 0, 0, 0, 0];
+    let mut disabled = [0x12, 0, 8, 0, 0, 0, 0, 0, 0, 0, 0];
     assert_eq!(replay(&SHEET, &mut disabled, &mut memory, &[]), 5);
     assert_eq!(replay(&SHEET, &mut disabled, &mut memory, &[0]), 5);
     assert_eq!(replay(&SHEET, &mut disabled, &mut [], &[0]), 2);

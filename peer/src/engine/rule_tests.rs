@@ -1,5 +1,6 @@
 //! Rules of document 01 that no bench case shows.
 
+use super::sheet::Sheet;
 use super::state::State;
 use super::{enable, exchange, memory_mode, reset};
 
@@ -14,14 +15,14 @@ fn sheet() -> Vec<u8> {
     octets
 }
 
-const ASYNC: [u8; 10] = [0x11, 2, 16, 0, 5, 0, 0, 0, 0, 0];
-const SYNC: [u8; 10] = [0x11, 3, 16, 1, 5, 1, 7, 4, 0, 0];
+const ASYNC: [u8; 11] = [0x12, 2, 16, 0, 5, 0, 0, 0, 0, 0, 0];
+const SYNC: [u8; 11] = [0x12, 3, 16, 1, 5, 1, 7, 4, 0, 0, 0];
 /// The WDT that `SYNC` asks for.
 const NEXT: u8 = 0x48;
-const DISCONNECTED: [u8; 10] = [0x11, 1, 16, 0, 0, 0, 0, 0, 0, 0];
+const DISCONNECTED: [u8; 11] = [0x12, 1, 16, 0, 0, 0, 0, 0, 0, 0, 0];
 
 /// Reply and state after one exchange over a zero memory.
-fn after(state: [u8; 10], octets: &[u8]) -> ([u8; 16], [u8; 10]) {
+fn after(state: [u8; 11], octets: &[u8]) -> ([u8; 16], [u8; 11]) {
     let (mut state, mut memory, mut reply) = (state, [0; 8], [0xEE; 16]);
     let mut command = [0; 16];
     command[..octets.len()].copy_from_slice(octets);
@@ -31,7 +32,7 @@ fn after(state: [u8; 10], octets: &[u8]) -> ([u8; 16], [u8; 10]) {
 }
 
 /// The alarm of one exchange.
-fn alarm(state: [u8; 10], octets: &[u8]) -> u8 {
+fn alarm(state: [u8; 11], octets: &[u8]) -> u8 {
     after(state, octets).0[3] & 15
 }
 
@@ -41,7 +42,7 @@ fn disconnect_from_link_3_keeps_the_latches() {
     start[8] = 9;
     let (reply, state) = after(start, &[0x0F, NEXT]);
     assert_eq!(reply[..4], [0x0F, 0, 5, 0]);
-    assert_eq!(state, [0x11, 1, 16, 0, 0, 0, 0, 0, 9, 0]);
+    assert_eq!(state, [0x12, 1, 16, 0, 0, 0, 0, 0, 9, 0, 0]);
 }
 
 #[test]
@@ -50,7 +51,7 @@ fn a_lost_cycle_is_told_before_anything_else() {
         let (reply, state) = after(SYNC, &[code, 0x47]);
         assert_eq!(reply[..4], [code, 0, 5, 0xC0]);
         assert_eq!(reply[4..], [0; 12]);
-        assert_eq!(state, [0x11, 2, 16, 0, 5, 0, 0, 0, 0, 12]);
+        assert_eq!(state, [0x12, 2, 16, 0, 5, 0, 0, 0, 0, 12, 0]);
     }
 }
 
@@ -58,10 +59,10 @@ fn a_lost_cycle_is_told_before_anything_else() {
 fn entering_link_3_answers_the_masters_count_and_rsn_0() {
     let (reply, state) = after(ASYNC, &[0x0D, 0x5A]);
     assert_eq!(reply[..4], [0x0D, 0x0A, 4, 0]);
-    assert_eq!(state, [0x11, 3, 16, 0, 5, 0, 0, 0, 0, 0]);
+    assert_eq!(state, [0x12, 3, 16, 0, 5, 0, 0, 0, 0, 0, 0]);
     let (reply, state) = after(DISCONNECTED, &[0x0E, 0x5A, 0, 0, 3, 2, 1, 4]);
     assert_eq!(reply[..8], [0x0E, 0x0A, 4, 0, 3, 2, 1, 4]);
-    assert_eq!(state, [0x11, 3, 16, 0, 1, 0, 0, 0, 0, 0]);
+    assert_eq!(state, [0x12, 3, 16, 0, 1, 0, 0, 0, 0, 0, 0]);
 }
 
 #[test]
@@ -70,7 +71,7 @@ fn a_refused_command_counts_in_link_3() {
     start[7] = 15;
     let (reply, state) = after(start, &[0x0D, 0xF8]);
     assert_eq!(reply[..4], [0x0D, 0x08, 5, 12]);
-    assert_eq!(state, [0x11, 3, 16, 1, 5, 1, 8, 0, 12, 0]);
+    assert_eq!(state, [0x12, 3, 16, 1, 5, 1, 8, 0, 12, 0, 0]);
 }
 
 #[test]
@@ -161,40 +162,46 @@ fn refusals_come_in_order_and_write_nothing() {
         assert!(state == before && memory.iter().chain(&reply).all(|&octet| octet == 7));
         answer
     };
-    let disabled = [0x11, 0, 16, 0, 0, 0, 0, 0, 0, 0];
-    assert_eq!(run(&ASYNC[..9], 7, 7, 7), 1);
+    let disabled = [0x12, 0, 16, 0, 0, 0, 0, 0, 0, 0, 0];
+    assert_eq!(run(&ASYNC[..10], 7, 7, 7), 1);
     assert_eq!(run(&disabled, 7, 7, 7), 2);
     assert_eq!(run(&disabled, 8, 7, 7), 3);
     assert_eq!(run(&disabled, 8, 16, 7), 4);
     assert_eq!(run(&disabled, 8, 16, 16), 5);
     let mut state = ASYNC;
     assert_eq!((enable(&sheet(), &mut state), state), (6, ASYNC));
-    let mut short = [1; 9];
-    assert_eq!((reset(&sheet(), &mut short), short), (1, [1; 9]));
+    let (mut short, mut long) = ([1; 10], [1; 12]);
+    assert_eq!((reset(&sheet(), &mut short), short), (1, [1; 10]));
+    assert_eq!((reset(&sheet(), &mut long), long), (1, [1; 12]));
 }
 
 #[test]
 fn state_records_are_valid_only_in_agreement() {
-    let valid = |record: [u8; 10]| State::read(&record, 16).is_some();
+    let octets = sheet();
+    let read = |record: [u8; 11]| {
+        let sheet = Sheet::read(&octets).ok()?;
+        State::read(&record, &sheet)
+    };
+    let valid = |record| read(record).is_some();
     assert!(valid(ASYNC) && valid(SYNC) && valid(DISCONNECTED));
-    assert!(valid([0x11, 3, 16, 0, 1, 0, 0, 0, 12, 12]));
+    assert!(valid([0x12, 3, 16, 0, 1, 0, 0, 0, 12, 12, 0]));
     let bad = [
-        [0x12, 2, 16, 0, 5, 0, 0, 0, 0, 0],
-        [0x11, 4, 16, 0, 5, 0, 0, 0, 0, 0],
-        [0x11, 2, 32, 0, 5, 0, 0, 0, 0, 0],
-        [0x11, 2, 16, 1, 5, 0, 0, 0, 0, 0],
-        [0x11, 2, 16, 0, 0, 0, 0, 0, 0, 0],
-        [0x11, 1, 16, 0, 1, 0, 0, 0, 0, 0],
-        [0x11, 3, 16, 1, 1, 0, 0, 0, 0, 0],
-        [0x11, 3, 16, 0, 5, 0, 1, 0, 0, 0],
-        [0x11, 3, 16, 0, 5, 0, 0, 1, 0, 0],
-        [0x11, 3, 16, 0, 5, 1, 16, 0, 0, 0],
-        [0x11, 3, 16, 0, 5, 1, 0, 16, 0, 0],
-        [0x11, 2, 16, 0, 5, 1, 0, 0, 0, 0],
-        [0x11, 2, 16, 0, 5, 0, 0, 0, 11, 0],
-        [0x11, 2, 16, 0, 5, 0, 0, 0, 0, 8],
-        [0x11, 0, 16, 0, 0, 0, 0, 0, 8, 0],
-        [0x11, 0, 16, 0, 0, 0, 0, 0, 0, 12],
+        [0x11, 2, 16, 0, 5, 0, 0, 0, 0, 0, 0],
+        [0x12, 4, 16, 0, 5, 0, 0, 0, 0, 0, 0],
+        [0x12, 2, 32, 0, 5, 0, 0, 0, 0, 0, 0],
+        [0x12, 2, 16, 1, 5, 0, 0, 0, 0, 0, 0],
+        [0x12, 2, 16, 0, 0, 0, 0, 0, 0, 0, 0],
+        [0x12, 1, 16, 0, 1, 0, 0, 0, 0, 0, 0],
+        [0x12, 3, 16, 1, 1, 0, 0, 0, 0, 0, 0],
+        [0x12, 3, 16, 0, 5, 0, 1, 0, 0, 0, 0],
+        [0x12, 3, 16, 0, 5, 0, 0, 1, 0, 0, 0],
+        [0x12, 3, 16, 0, 5, 1, 16, 0, 0, 0, 0],
+        [0x12, 3, 16, 0, 5, 1, 0, 16, 0, 0, 0],
+        [0x12, 2, 16, 0, 5, 1, 0, 0, 0, 0, 0],
+        [0x12, 2, 16, 0, 5, 0, 0, 0, 11, 0, 0],
+        [0x12, 2, 16, 0, 5, 0, 0, 0, 0, 8, 0],
+        [0x12, 0, 16, 0, 0, 0, 0, 0, 8, 0, 0],
+        [0x12, 0, 16, 0, 0, 0, 0, 0, 0, 12, 0],
     ];
     assert!(!bad.iter().any(|&record| valid(record)));
 }

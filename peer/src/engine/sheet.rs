@@ -11,12 +11,14 @@ const PARAMETER_LIMIT: usize = 64;
 const ITEM_LIMIT: usize = 32;
 const PARAMETER_SIZE_LIMIT: u8 = 56;
 const ITEM_LENGTH_LIMIT: u8 = 32;
+const TOLERANCE_LIMIT: u8 = 3;
 const ADDRESSES: u64 = 1 << 32;
 
 const LINK_RECORD: usize = 4;
 const REGION_RECORD: usize = 10;
 const PARAMETER_RECORD: usize = 8;
 const ITEM_RECORD: usize = 35;
+const TOLERANCE_RECORD: usize = 2;
 
 /// The kinds in the order in which a sheet has them, the end apart.
 #[derive(Clone, Copy, PartialEq, Eq, PartialOrd, Ord)]
@@ -25,6 +27,8 @@ enum Kind {
     Region,
     Parameter,
     Item,
+    /// How many failures in a row are allowed (request 9).
+    Tolerance,
     End,
 }
 
@@ -36,6 +40,7 @@ impl Kind {
             2 => Some(Kind::Region),
             3 => Some(Kind::Parameter),
             4 => Some(Kind::Item),
+            6 => Some(Kind::Tolerance),
             _ => None,
         }
     }
@@ -46,14 +51,16 @@ impl Kind {
             Kind::Region => REGION_RECORD,
             Kind::Parameter => PARAMETER_RECORD,
             Kind::Item => ITEM_RECORD,
+            Kind::Tolerance => TOLERANCE_RECORD,
             Kind::End => 1,
         }
     }
 
-    /// The link record comes first and once; the others never step back.
+    /// The link record comes first and once, a tolerance once; the others never step back.
     fn in_place(self, last: Option<Kind>) -> bool {
         match last {
             None => self == Kind::Link,
+            Some(Kind::Tolerance) => self > Kind::Tolerance,
             Some(last) => self != Kind::Link && self >= last,
         }
     }
@@ -76,6 +83,7 @@ pub struct Sheet<'a> {
     regions: usize,
     parameters: usize,
     items: usize,
+    tolerance: Option<u8>,
     memory: u64,
 }
 
@@ -90,6 +98,7 @@ impl<'a> Sheet<'a> {
             regions: 0,
             parameters: 0,
             items: 0,
+            tolerance: None,
             memory: 0,
         };
         let mut place = 0;
@@ -122,6 +131,7 @@ impl<'a> Sheet<'a> {
             Kind::Region => self.take_region(region_of(record))?,
             Kind::Parameter => self.take_parameter(parameter_of(record))?,
             Kind::Item => self.take_item(record)?,
+            Kind::Tolerance => self.take_tolerance(record[1])?,
             Kind::End => (),
         }
         Ok(kind)
@@ -182,6 +192,14 @@ impl<'a> Sheet<'a> {
         Ok(())
     }
 
+    fn take_tolerance(&mut self, failures: u8) -> Result<(), u32> {
+        if failures > TOLERANCE_LIMIT {
+            return Err(answer::RANGE);
+        }
+        self.tolerance = Some(failures);
+        Ok(())
+    }
+
     /// L, the length of command and reply.
     pub fn pdu_length(&self) -> u8 {
         self.octets[1]
@@ -200,6 +218,16 @@ impl<'a> Sheet<'a> {
     /// The sum of the regions' lengths.
     pub fn memory_length(&self) -> usize {
         self.memory as usize
+    }
+
+    /// How many failures in a row are allowed; "none without" the record.
+    pub fn tolerance(&self) -> u8 {
+        self.tolerance.unwrap_or(0)
+    }
+
+    /// What the tolerance record says, if the sheet has one.
+    pub fn tolerance_record(&self) -> Option<u8> {
+        self.tolerance
     }
 
     /// The regions in sheet order.

@@ -27,6 +27,10 @@ fn item(code: u8, length: u8) -> Vec<u8> {
     record
 }
 
+fn tolerance(failures: u8) -> Vec<u8> {
+    vec![6, failures]
+}
+
 fn sheet_of(records: &[Vec<u8>]) -> Vec<u8> {
     let mut octets = LINK.to_vec();
     records.iter().for_each(|record| octets.extend(record));
@@ -146,4 +150,63 @@ fn nothing_wraps_at_the_last_address() {
     assert_eq!(fault(&with(parameter(0, 0xFFFF_FFFC, 4))), (0, 0));
     assert_eq!(fault(&with(parameter(0, 0xFFFF_FFFC, 5))), (17, 24));
     assert_eq!(fault(&with(parameter(0, 0xFFFF_FFFF, 2))), (17, 24));
+}
+
+#[test]
+fn a_tolerance_is_0_to_3() {
+    let all = [region(0, 8, 7), parameter(1, 0, 8), item(9, 1)];
+    let with = |record| [all.to_vec(), vec![record]].concat();
+    for failures in 0..=255 {
+        let told = if failures <= 3 { (0, 0) } else { (14, 57) };
+        assert_eq!(fault(&with(tolerance(failures))), told);
+        let told = if failures <= 3 { (0, 0) } else { (14, 4) };
+        assert_eq!(fault(&[tolerance(failures)]), told);
+    }
+    assert_eq!(lengths(&sheet_of(&with(tolerance(3)))), 16 | 8 << 32);
+}
+
+/// It may stand behind any records before it, and before the end alone.
+#[test]
+fn a_tolerance_stands_behind_the_items_and_once() {
+    let ground = region(0, 8, 7);
+    for before in [
+        vec![],
+        vec![ground.clone()],
+        vec![ground.clone(), parameter(1, 0, 8)],
+        vec![ground.clone(), item(9, 1)],
+        vec![item(9, 1)],
+    ] {
+        let with = [before.clone(), vec![tolerance(2)]].concat();
+        assert_eq!(fault(&with), (0, 0));
+        let place = sheet_of(&with).len() as u64 - 1;
+        for behind in [
+            LINK.to_vec(),
+            region(8, 1, 7),
+            parameter(2, 0, 8),
+            item(10, 1),
+            tolerance(2),
+            tolerance(0),
+        ] {
+            assert_eq!(fault(&[with.clone(), vec![behind]].concat()), (13, place));
+        }
+    }
+    assert_eq!(sheet(&[6]), 13);
+    assert_eq!(sheet(&[6, 1, 1, 16, 0x30, 0, 0]), 13);
+    assert_eq!(sheet(&[1, 16, 0x30, 0, 0, 6, 1]), 13 | 5 << 32);
+}
+
+/// Place, cut and range in this order; kinds 5 and 7 stay unknown.
+#[test]
+fn which_fault_of_a_tolerance_is_told() {
+    assert_eq!(sheet(&[1, 16, 0x30, 0, 6]), 11 | 4 << 32);
+    assert_eq!(sheet(&[1, 16, 0x30, 0, 6, 1]), 11 | 6 << 32);
+    assert_eq!(sheet(&[1, 16, 0x30, 0, 6, 4]), 14 | 4 << 32);
+    assert_eq!(sheet(&[1, 16, 0x30, 0, 6, 1, 6]), 13 | 6 << 32);
+    assert_eq!(sheet(&[1, 16, 0x30, 0, 6, 1, 6, 4]), 13 | 6 << 32);
+    assert_eq!(sheet(&[1, 16, 0x30, 0, 6, 4, 6]), 14 | 4 << 32);
+    assert_eq!(sheet(&[1, 16, 0x30, 0, 6, 1, 2]), 13 | 6 << 32);
+    for kind in (5..=255).filter(|&kind| kind != 6) {
+        assert_eq!(sheet(&[1, 16, 0x30, 0, kind, 1, 0]), 12 | 4 << 32);
+        assert_eq!(sheet(&[1, 16, 0x30, 0, 6, 1, kind, 1]), 12 | 6 << 32);
+    }
 }

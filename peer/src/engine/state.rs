@@ -1,8 +1,16 @@
-//! The state record of ten octets, and how links begin and end.
+//! The state record of eleven octets, and how links begin and end.
+
+use super::sheet::Sheet;
 
 /// The record's length.
-pub const LENGTH: usize = 10;
-const KIND: u8 = 0x11;
+pub const LENGTH: usize = 11;
+const KIND: u8 = 0x12;
+/// The record before request 9 had no count of failures, and is otherwise the same.
+const OLD_LENGTH: usize = 10;
+const OLD_KIND: u8 = 0x11;
+/// The octets that both records have behind their kind.
+const SHARED: std::ops::Range<usize> = 1..10;
+const FAILURES_AT: usize = 10;
 
 /// What the communication latch holds after a lost cycle.
 const LOST_CYCLE: u8 = 12;
@@ -28,11 +36,13 @@ impl Link {
     }
 }
 
-/// The watchdog's counters; RSN is 0 as long as MN is not known.
-#[derive(Clone, Copy, Debug, PartialEq, Eq)]
+/// The watchdog's counters; RSN and failures are 0 as long as MN is not known.
+#[derive(Clone, Copy, Debug, Default, PartialEq, Eq)]
 pub struct Counters {
     pub last_mn: u8,
     pub rsn: u8,
+    /// Failures of check 1 in a row that were tolerated (request 9).
+    pub failures: u8,
 }
 
 /// A valid state record.
@@ -62,19 +72,35 @@ impl State {
         }
     }
 
-    /// The record's state if the record is valid beside a sheet of that L.
-    pub fn read(record: &[u8], pdu_length: u8) -> Option<State> {
-        if record.len() != LENGTH || record[0] != KIND || record[2] != pdu_length {
+    /// The record's state if the record is valid beside this sheet.
+    pub fn read(record: &[u8], sheet: &Sheet) -> Option<State> {
+        if record.len() != LENGTH || record[0] != KIND || record[FAILURES_AT] > sheet.tolerance() {
+            return None;
+        }
+        State::of_fields(&record[SHARED], record[FAILURES_AT], sheet.pdu_length())
+    }
+
+    /// The state of a record from before request 9, which has counted no failure.
+    pub fn read_old(record: &[u8], sheet: &Sheet) -> Option<State> {
+        if record.len() != OLD_LENGTH || record[0] != OLD_KIND {
+            return None;
+        }
+        State::of_fields(&record[SHARED], 0, sheet.pdu_length())
+    }
+
+    /// The state of the octets behind the kind and of the count, if they are valid together.
+    fn of_fields(octets: &[u8], failures: u8, pdu_length: u8) -> Option<State> {
+        if octets[1] != pdu_length {
             return None;
         }
         let state = State {
-            link: Link::of(record[1])?,
+            link: Link::of(octets[0])?,
             pdu_length,
-            dual: flag(record[3])?,
-            com_time: record[4],
-            counters: counters(flag(record[5])?, record[6], record[7])?,
-            command_latch: one_of(record[8], &[0, 8, 9, 10, 12])?,
-            communication_latch: one_of(record[9], &[0, LOST_CYCLE])?,
+            dual: flag(octets[2])?,
+            com_time: octets[3],
+            counters: counters(flag(octets[4])?, octets[5], octets[6], failures)?,
+            command_latch: one_of(octets[7], &[0, 8, 9, 10, 12])?,
+            communication_latch: one_of(octets[8], &[0, LOST_CYCLE])?,
         };
         if state.fields_agree() {
             Some(state)
@@ -92,12 +118,10 @@ impl State {
             && (self.link != Link::Disabled || !self.latched())
     }
 
-    /// Writes the whole record into ten octets.
+    /// Writes the whole record into eleven octets.
     pub fn write(&self, record: &mut [u8]) {
-        let (known, counters) = match self.counters {
-            Some(counters) => (1, counters),
-            None => (0, Counters { last_mn: 0, rsn: 0 }),
-        };
+        let known = u8::from(self.counters.is_some());
+        let counters = self.counters.unwrap_or_default();
         record.copy_from_slice(&[
             KIND,
             self.link as u8,
@@ -109,6 +133,7 @@ impl State {
             counters.rsn,
             self.command_latch,
             self.communication_latch,
+            counters.failures,
         ]);
     }
 
@@ -117,7 +142,7 @@ impl State {
         self.command_latch != 0 || self.communication_latch != 0
     }
 
-    /// Whether this WDT loses the cycle (check 1).
+    /// Whether this WDT fails check 1.
     ///
     /// "With MN known, link 3 shall require that MN follows and that SN equals the
     /// state's RSN" (request 5); with MN not known neither is asked.
@@ -127,6 +152,32 @@ impl State {
             Some(counters) => mn != (counters.last_mn + 1) % 16 || sn != counters.rsn,
             None => false,
         }
+    }
+
+    /// Failures in a row so far.
+    pub fn failures(&self) -> u8 {
+        self.counters.map_or(0, |counters| counters.failures)
+    }
+
+    /// With so many failures in a row, where there is a count of them.
+    fn with_failures(self, failures: u8) -> State {
+        State {
+            counters: self.counters.map(|counters| Counters {
+                failures,
+                ..counters
+            }),
+            ..self
+        }
+    }
+
+    /// "An exchange that passes check 1 sets the count to 0", accepted or refused.
+    pub fn in_step(self) -> State {
+        self.with_failures(0)
+    }
+
+    /// After a failure within what the sheet allows: link and latches stay.
+    pub fn failure_tolerated(self) -> State {
+        self.with_failures(self.failures() + 1)
     }
 
     /// Disabled becomes Disconnected.
@@ -201,11 +252,12 @@ impl State {
 
     /// One more exchange that began and ended in SyncConnected.
     pub fn counted(self, mn: u8) -> State {
-        let rsn = self.counters.map_or(0, |counters| counters.rsn);
+        let counters = self.counters.unwrap_or_default();
         State {
             counters: Some(Counters {
                 last_mn: mn,
-                rsn: (rsn + 1) % 16,
+                rsn: (counters.rsn + 1) % 16,
+                ..counters
             }),
             ..self
         }
@@ -224,11 +276,15 @@ fn one_of(octet: u8, allowed: &[u8]) -> Option<u8> {
     allowed.iter().copied().find(|&value| value == octet)
 }
 
-/// The outer answer is whether the three octets are valid together.
-fn counters(known: bool, last_mn: u8, rsn: u8) -> Option<Option<Counters>> {
-    match (known, last_mn, rsn) {
-        (false, 0, 0) => Some(None),
-        (true, 0..=15, 0..=15) => Some(Some(Counters { last_mn, rsn })),
+/// The outer answer is whether the four octets are valid together.
+fn counters(known: bool, last_mn: u8, rsn: u8, failures: u8) -> Option<Option<Counters>> {
+    match (known, last_mn, rsn, failures) {
+        (false, 0, 0, 0) => Some(None),
+        (true, 0..=15, 0..=15, _) => Some(Some(Counters {
+            last_mn,
+            rsn,
+            failures,
+        })),
         _ => None,
     }
 }

@@ -2,6 +2,7 @@
 
 use super::scene::Scene;
 use crate::trial::engines::Engine;
+use crate::trial::states::LENGTH;
 use std::time::Instant;
 
 /// The shortest batch that is timed, in nanoseconds.
@@ -24,7 +25,7 @@ impl<'a> Running<'a> {
         Running {
             engine,
             scene,
-            state: vec![0; 10],
+            state: vec![0; LENGTH],
             memory: scene.memory.clone(),
             reply: vec![0; 64],
         }

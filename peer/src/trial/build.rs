@@ -1,7 +1,7 @@
 //! Commands and memories for directed trials.
 
 use super::plan::Plan;
-use super::states::{KNOWN_AT, LAST_MN_AT, LINK_AT, RSN_AT, SYNC};
+use super::states::{asks_wdt, LAST_MN_AT, RSN_AT};
 
 /// A command of this code whose unnamed octets all hold something.
 pub fn command(plan: &Plan, code: u8) -> Vec<u8> {
@@ -53,7 +53,7 @@ pub fn memory(plan: &Plan, code: u8, mode: u8, count: u16, address: u64) -> Vec<
 
 /// Sets the MN that follows and the SN that is the RSN, where the state asks for them.
 pub fn follow(command: &mut [u8], state: &[u8]) {
-    if state[LINK_AT] == SYNC && state[KNOWN_AT] == 1 {
+    if asks_wdt(state) {
         command[1] = state[RSN_AT] << 4 | state[LAST_MN_AT].wrapping_add(1) & 15;
     }
 }

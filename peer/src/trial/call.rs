@@ -7,6 +7,7 @@ pub enum Call {
     Lengths,
     Reset,
     Enable,
+    Turn,
     Exchange,
     Replay,
 }
@@ -16,6 +17,8 @@ pub enum Call {
 pub struct Inputs {
     pub sheet: Vec<u8>,
     pub state: Vec<u8>,
+    /// The record that is turned.
+    pub old: Vec<u8>,
     pub memory: Vec<u8>,
     pub command: Vec<u8>,
     pub reply: Vec<u8>,

@@ -2,7 +2,8 @@
 
 use super::plan::Plan;
 use super::random::Random;
-use super::states::{ASYNC, DISCONNECTED, KNOWN_AT, LAST_MN_AT, LINK_AT, RSN_AT, SYNC};
+use super::states::{asks_wdt, ASYNC, DISCONNECTED, SYNC};
+use super::states::{FAILURES_AT, LAST_MN_AT, LINK_AT, RSN_AT};
 use crate::engine::memory_mode;
 
 /// The codes that are built.
@@ -42,12 +43,14 @@ fn code(random: &mut Random, link: u8) -> u8 {
 
 /// Mostly the WDT that is asked for, else MN, SN or both are beside it; any where none is asked for.
 fn watchdog(random: &mut Random, state: &[u8]) -> u8 {
-    if state[LINK_AT] != SYNC || state[KNOWN_AT] != 1 {
+    if !asks_wdt(state) {
         return random.octet();
     }
     let (last, rsn) = (state[LAST_MN_AT], state[RSN_AT]);
     let next = last.wrapping_add(1) & 15;
-    let (mn, sn) = match random.below(100) {
+    // After one failure the next is likely, so that runs reach every bound.
+    let draws = if state[FAILURES_AT] > 0 { 18 } else { 100 };
+    let (mn, sn) = match random.below(draws) {
         0 => (last, rsn),
         1 => (next.wrapping_add(1), rsn),
         2 => (random.octet(), rsn),
@@ -195,7 +198,7 @@ fn address(random: &mut Random, plan: &Plan, length: u64) -> u64 {
 mod tests {
     use super::*;
     use crate::trial::samples::sheet_p;
-    use crate::trial::states::{counting_state, plain_state};
+    use crate::trial::states::{counting_state, failing_state, plain_state};
 
     #[test]
     fn most_commands_stay_in_step_and_some_lose_the_cycle_by_each_cause() {
@@ -208,6 +211,16 @@ mod tests {
             counts[wrong[0] + 2 * wrong[1]] += 1;
         }
         assert!(counts[0] > 8800 && counts[1..].iter().all(|&lost| lost > 100));
+    }
+
+    #[test]
+    fn after_a_failure_half_of_the_commands_fail() {
+        let (mut random, plan) = (Random::new(1), sheet_p());
+        let state = failing_state(16, 15, 6, 1);
+        let failing = (0..10_000)
+            .filter(|_| random_command(&mut random, &plan, &state)[1] != 0x60)
+            .count();
+        assert!((4000..6000).contains(&failing));
     }
 
     #[test]

@@ -1,6 +1,6 @@
 //! Damage to good sheets: octets, records and lengths.
 
-use super::plan::{item, parameter, region, Plan};
+use super::plan::{item, parameter, region, tolerance_record, Plan};
 use super::random::Random;
 use crate::engine::region::Region;
 
@@ -65,7 +65,7 @@ fn damage_records(random: &mut Random, records: &mut Vec<Vec<u8>>) {
     }
     let at = random.index(records.len());
     let other = random.index(records.len());
-    match random.below(6) {
+    match random.below(7) {
         0 => records.swap(at, other),
         1 => {
             let copy = records[at].clone();
@@ -76,8 +76,12 @@ fn damage_records(random: &mut Random, records: &mut Vec<Vec<u8>>) {
             records[at].pop();
         }
         4 => {
-            let kind = random.pick(&[0, 1, 5, 6, 0xFF]);
+            let kind = random.pick(&[0, 1, 5, 6, 7, 0xFF]);
             records.insert(at, vec![kind]);
+        }
+        5 => {
+            let failures = random.pick(&[0, 1, 2, 3, 3, 4, 0xFF]);
+            records.insert(at, tolerance_record(failures));
         }
         _ => {
             let body = random.octets(9);

@@ -7,6 +7,9 @@ pub type Exchange = fn(&[u8], &mut [u8], &mut [u8], &[u8], &mut [u8]) -> u64;
 /// Sheet, state, memory and trace to an answer.
 pub type Replay = fn(&[u8], &mut [u8], &mut [u8], &[u8]) -> u64;
 
+/// Sheet, old record and new record to an answer.
+pub type Turn = fn(&[u8], &[u8], &mut [u8]) -> u64;
+
 /// The functions of an engine.
 #[derive(Clone, Copy)]
 pub struct Engine {
@@ -14,8 +17,10 @@ pub struct Engine {
     pub lengths: fn(&[u8]) -> u64,
     pub reset: fn(&[u8], &mut [u8]) -> u64,
     pub enable: fn(&[u8], &mut [u8]) -> u64,
+    pub turn: Turn,
     pub exchange: Exchange,
     pub replay: Replay,
+    pub version: fn() -> u64,
 }
 
 /// The engine of this crate.
@@ -24,6 +29,8 @@ pub const PEER: Engine = Engine {
     lengths: engine::lengths,
     reset: engine::reset,
     enable: engine::enable,
+    turn: engine::turn,
     exchange: engine::exchange,
     replay: engine::replay,
+    version: engine::version,
 };

@@ -17,9 +17,15 @@ pub fn random_plan(random: &mut Random) -> Plan {
         regions: regions(random),
         parameters: Vec::new(),
         items: items(random),
+        tolerance: tolerance(random),
     };
     plan.parameters = parameters(random, &plan);
     plan
+}
+
+/// Half of the sheets allow a failure or more; the others have no record, or one of 0.
+fn tolerance(random: &mut Random) -> Option<u8> {
+    random.pick(&[None, None, Some(0), Some(1), Some(2), Some(3)])
 }
 
 fn regions(random: &mut Random) -> Vec<Region> {
@@ -160,5 +166,15 @@ mod tests {
             assert_eq!(engine::sheet(&octets), 0, "seed {seed}");
             assert_eq!(Plan::read(&octets), Some(plan), "seed {seed}");
         }
+    }
+
+    #[test]
+    fn random_plans_have_every_tolerance_and_none() {
+        let mut seen = std::collections::BTreeSet::new();
+        for seed in 0..300 {
+            seen.insert(random_plan(&mut Random::new(seed)).tolerance);
+        }
+        let all = [None, Some(0), Some(1), Some(2), Some(3)];
+        assert!(seen.into_iter().eq(all));
     }
 }

@@ -22,6 +22,8 @@ pub struct Plan {
     pub regions: Vec<Region>,
     pub parameters: Vec<Parameter>,
     pub items: Vec<Item>,
+    /// Nothing for a sheet without the record.
+    pub tolerance: Option<u8>,
 }
 
 impl Plan {
@@ -34,6 +36,7 @@ impl Plan {
             regions: Vec::new(),
             parameters: Vec::new(),
             items: Vec::new(),
+            tolerance: None,
         }
     }
 
@@ -53,6 +56,7 @@ impl Plan {
                     octets: octets.to_vec(),
                 })
                 .collect(),
+            tolerance: sheet.tolerance_record(),
         })
     }
 
@@ -62,12 +66,18 @@ impl Plan {
         records.extend(self.regions.iter().map(region_record));
         records.extend(self.parameters.iter().map(parameter_record));
         records.extend(self.items.iter().map(item_record));
+        records.extend(self.tolerance.map(tolerance_record));
         records.push(vec![0]);
         records
     }
 
     pub fn octets(&self) -> Vec<u8> {
         self.records().concat()
+    }
+
+    /// How many failures in a row the sheet allows.
+    pub fn allowed(&self) -> u8 {
+        self.tolerance.unwrap_or(0)
     }
 
     pub fn memory_length(&self) -> usize {
@@ -108,6 +118,10 @@ pub fn item_record(item: &Item) -> Vec<u8> {
     record.extend(&item.octets);
     record.resize(35, 0);
     record
+}
+
+pub fn tolerance_record(failures: u8) -> Vec<u8> {
+    vec![6, failures]
 }
 
 pub fn region(start: u64, length: u64, rights: u8) -> Region {

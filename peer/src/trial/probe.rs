@@ -5,7 +5,7 @@ use super::call::Call;
 use super::plan::Plan;
 use super::report::Difference;
 use super::rig::Rig;
-use super::states::{plain_state, ASYNC, DISABLED, SYNC};
+use super::states::{old_of, plain_state, ASYNC, DISABLED, LENGTH, SYNC};
 use crate::engine::memory_mode;
 
 /// Nothing, or the first difference.
@@ -93,8 +93,11 @@ pub fn judge_sheet_briefly(rig: &mut Rig, sheet: &[u8]) -> Outcome {
     rig.inputs.sheet = sheet.to_vec();
     rig.call(Call::Sheet)?;
     let memory_length = (rig.call(Call::Lengths)? >> 32) as usize;
-    rig.inputs.state = vec![0xEE; 10];
+    rig.inputs.state = vec![0xEE; LENGTH];
     rig.call(Call::Reset)?;
+    rig.inputs.state = vec![0xEE; LENGTH];
+    rig.inputs.old = old_of(&plain_state(pdu_length, ASYNC));
+    rig.call(Call::Turn)?;
     rig.inputs.state = plain_state(pdu_length, DISABLED);
     rig.call(Call::Enable)?;
     rig.inputs.memory = build::distinct_octets(memory_length);

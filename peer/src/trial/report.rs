@@ -21,6 +21,7 @@ impl Difference {
             line("command", &inputs.command),
             line("reply before", &inputs.reply),
             line("trace", &inputs.trace),
+            line("old record", &inputs.old),
         ];
         for (name, side) in ["peer", "t24"].into_iter().zip(sides) {
             lines.push(format!("{name} answer: {}", answer_text(side.answer)));
@@ -28,17 +29,18 @@ impl Difference {
             lines.push(line(&format!("{name} memory"), side.memory.lend()));
             lines.push(line(&format!("{name} reply"), side.reply.lend()));
         }
-        lines.extend(changed_sheet_or_command(inputs, sides[1]));
+        lines.extend(changed_for_reading(inputs, sides[1]));
         Difference { lines }
     }
 }
 
 /// Buffers lent for reading are shown again only if they have changed.
-fn changed_sheet_or_command(inputs: &Inputs, theirs: &Side) -> Vec<String> {
+fn changed_for_reading(inputs: &Inputs, theirs: &Side) -> Vec<String> {
     let pairs = [
         ("t24 sheet", theirs.sheet.lend(), &inputs.sheet),
         ("t24 command", theirs.command.lend(), &inputs.command),
         ("t24 trace", theirs.trace.lend(), &inputs.trace),
+        ("t24 old record", theirs.old.lend(), &inputs.old),
     ];
     pairs
         .iter()

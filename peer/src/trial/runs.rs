@@ -9,7 +9,8 @@ use super::probe::{judge_sheet_briefly, Outcome};
 use super::random::Random;
 use super::recorder::Recorder;
 use super::rig::Rig;
-use super::states::{damaged_state, plain_state, random_state, DISABLED};
+use super::states::{damaged_state, old_of, plain_state, random_state, state_past};
+use super::states::{DISABLED, LENGTH, OLD_KIND};
 
 /// Steps of one sequence.
 pub const STEPS: u64 = 64;
@@ -48,15 +49,22 @@ pub fn run_sequence(rig: &mut Rig, seed: u64, sequence: u64) -> Outcome {
     Ok(())
 }
 
-/// By reset and enable, or any valid state at once.
+/// By reset and enable, by turning an old record, or any valid state at once.
 fn start_state(rig: &mut Rig, random: &mut Random, plan: &Plan) -> Outcome {
-    if random.chance(50) {
-        rig.inputs.state = random_state(random, plan.pdu_length);
-        return Ok(());
+    let state = random_state(random, plan);
+    match random.below(4) {
+        0 | 1 => rig.inputs.state = state,
+        2 => {
+            rig.inputs.old = old_of(&state);
+            rig.inputs.state = random.octets(LENGTH);
+            rig.call(Call::Turn)?;
+        }
+        _ => {
+            rig.inputs.state = random.octets(LENGTH);
+            rig.call(Call::Reset)?;
+            rig.call(Call::Enable)?;
+        }
     }
-    rig.inputs.state = random.octets(10);
-    rig.call(Call::Reset)?;
-    rig.call(Call::Enable)?;
     Ok(())
 }
 
@@ -66,7 +74,7 @@ fn disturb(rig: &mut Rig, random: &mut Random, plan: &Plan) -> Outcome {
     rig.inputs.command = random_command(random, plan, &kept.state);
     rig.inputs.reply = random.octets(rig.inputs.command.len());
     let mut call = Call::Exchange;
-    match random.below(7) {
+    match random.below(10) {
         0 => call = Call::Sheet,
         1 => call = Call::Lengths,
         2 => {
@@ -81,6 +89,12 @@ fn disturb(rig: &mut Rig, random: &mut Random, plan: &Plan) -> Outcome {
         }
         4 => rig.inputs.state = damaged_state(random, &kept.state),
         5 => disturb_disabled(rig, random, plan)?,
+        6 => rig.inputs.state = state_past(random, plan),
+        7 => disturb_with_old(rig, random, plan)?,
+        8 => {
+            call = Call::Turn;
+            lend_old(rig, random, plan);
+        }
         _ => resize_one(rig, random),
     }
     rig.call(call)?;
@@ -99,6 +113,38 @@ fn disturb_disabled(rig: &mut Rig, random: &mut Random, plan: &Plan) -> Outcome 
     rig.inputs.trace = random.octets(length);
     rig.call(Call::Replay)?;
     Ok(())
+}
+
+/// Nothing but the turning call takes an old record.
+fn disturb_with_old(rig: &mut Rig, random: &mut Random, plan: &Plan) -> Outcome {
+    rig.inputs.state = old_of(&plain_state(plan.pdu_length, DISABLED));
+    rig.call(Call::Enable)?;
+    rig.inputs.state = old_of(&random_state(random, plan));
+    if random.chance(30) {
+        rig.inputs.state.push(0);
+    }
+    rig.inputs.trace.clear();
+    rig.call(Call::Replay)?;
+    Ok(())
+}
+
+/// An old record, good or spoiled, with octets of any content for the new one.
+fn lend_old(rig: &mut Rig, random: &mut Random, plan: &Plan) {
+    let mut old = old_of(&random_state(random, plan));
+    if random.chance(15) {
+        old = old_of(&plain_state(plan.pdu_length, DISABLED));
+    }
+    let mut state = random.octets(LENGTH);
+    match random.below(7) {
+        0 => old = damaged_state(random, &old),
+        1 => old[0] = random.pick(&[OLD_KIND - 1, OLD_KIND + 1, 0, 0x21]),
+        2 => old.resize(random.pick(&[0, 9, 11, 12, 20]), 0),
+        3 => state.resize(random.pick(&[0, 9, 10, 12, 20]), 0xEE),
+        4 => old = rig.inputs.state.clone(),
+        _ => (),
+    }
+    rig.inputs.old = old;
+    rig.inputs.state = state;
 }
 
 fn resize_one(rig: &mut Rig, random: &mut Random) {

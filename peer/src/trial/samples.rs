@@ -35,6 +35,14 @@ pub fn both_ends(pdu_length: u8) -> Plan {
     }
 }
 
+/// The same, with so many failures in a row allowed.
+pub fn tolerant(pdu_length: u8, tolerance: Option<u8>) -> Plan {
+    Plan {
+        tolerance,
+        ..both_ends(pdu_length)
+    }
+}
+
 /// A sheet as a drive would have it: 8 regions, 16 parameters, 4 ID items.
 pub fn typical(pdu_length: u8) -> Plan {
     let mut plan = Plan::bare(pdu_length);
@@ -60,7 +68,7 @@ pub enum Spans {
     Crossing,
 }
 
-/// The largest sheet: 32 regions, 64 parameters of 56 octets, 32 full items.
+/// The largest sheet: 32 regions, 64 parameters of 56 octets, 32 full items, and a tolerance.
 pub fn largest(pdu_length: u8, spans: Spans) -> Plan {
     let mut plan = Plan::bare(pdu_length);
     let mut at = 0x2_0000;
@@ -84,6 +92,7 @@ pub fn largest(pdu_length: u8, spans: Spans) -> Plan {
     for index in 0..32 {
         plan.items.push(item(index * 8, &[0x42; 32]));
     }
+    plan.tolerance = Some(3);
     plan
 }
 
@@ -97,10 +106,11 @@ mod tests {
         assert_eq!(engine::sheet(&sheet_p().octets()), 0);
         assert_eq!(sheet_p().octets().len(), 33);
         assert_eq!(engine::sheet(&both_ends(48).octets()), 0);
+        assert_eq!(engine::sheet(&tolerant(8, Some(3)).octets()), 0);
         assert_eq!(engine::sheet(&typical(64).octets()), 0);
         for spans in [Spans::First, Spans::Last, Spans::Crossing] {
             let octets = largest(64, spans).octets();
-            assert_eq!((engine::sheet(&octets), octets.len()), (0, 1957));
+            assert_eq!((engine::sheet(&octets), octets.len()), (0, 1959));
         }
     }
 }

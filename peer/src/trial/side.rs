@@ -11,6 +11,7 @@ pub struct Side {
     pub answer: Option<u64>,
     pub sheet: Guarded,
     pub state: Guarded,
+    pub old: Guarded,
     pub memory: Guarded,
     pub command: Guarded,
     pub reply: Guarded,
@@ -29,6 +30,7 @@ impl Side {
             command: buffer(salt ^ 3),
             reply: buffer(salt ^ 4),
             trace: buffer(salt ^ 5),
+            old: buffer(salt ^ 6),
         }
     }
 
@@ -40,6 +42,7 @@ impl Side {
         self.command.load(&inputs.command);
         self.reply.load(&inputs.reply);
         self.trace.load(&inputs.trace);
+        self.old.load(&inputs.old);
         let sheet = self.sheet.lend();
         let (state, memory) = (self.state.lend_mut(), self.memory.lend_mut());
         let (command, reply) = (self.command.lend(), self.reply.lend_mut());
@@ -49,6 +52,7 @@ impl Side {
             Call::Lengths => (self.engine.lengths)(sheet),
             Call::Reset => (self.engine.reset)(sheet, state),
             Call::Enable => (self.engine.enable)(sheet, state),
+            Call::Turn => (self.engine.turn)(sheet, self.old.lend(), state),
             Call::Exchange => (self.engine.exchange)(sheet, state, memory, command, reply),
             Call::Replay => {
                 let trace = long.unwrap_or(self.trace.lend());
@@ -71,6 +75,7 @@ impl Side {
             &self.command,
             &self.reply,
             &self.trace,
+            &self.old,
         ];
         all.iter().all(|buffer| buffer.intact())
     }
@@ -80,5 +85,6 @@ impl Side {
         self.sheet.lend() == inputs.sheet.as_slice()
             && self.command.lend() == inputs.command.as_slice()
             && self.trace.lend() == inputs.trace.as_slice()
+            && self.old.lend() == inputs.old.as_slice()
     }
 }

@@ -2,9 +2,11 @@
 
 use super::call::{Call, Inputs};
 use super::commands::CODES;
-use super::lost::Lost;
+use super::failures::Failures;
 use super::places::Places;
-use super::states::{ASYNC, LINK_AT, SYNC};
+use super::replies::{Cycle, Replies};
+use super::states::LINK_AT;
+use super::turned::Turned;
 use crate::engine::memory_mode;
 use crate::engine::octets::{number_16, number_32};
 use crate::engine::region::Region;
@@ -31,46 +33,6 @@ const ALARMS: [usize; 4] = [8, 9, 10, 12];
 /// PRM_RD, PRM_WR, MEM_RD and MEM_WR.
 const SPANNING: [u8; 4] = [0x01, 0x02, 0x1D, 0x1E];
 
-/// Built replies of one code, or of one identity.
-#[derive(Clone, Copy, Default)]
-struct Replies {
-    /// Accepted, by the link before.
-    accepted: [u64; 4],
-    alarms: [u64; 16],
-    lost_cycles: u64,
-}
-
-impl Replies {
-    fn add(&mut self, before: u8, alarm: usize, lost: bool) {
-        if lost {
-            self.lost_cycles += 1;
-        } else if alarm == 0 {
-            self.accepted[usize::from(before)] += 1;
-        } else {
-            self.alarms[alarm] += 1;
-        }
-    }
-
-    /// What of these links and alarms, and of a lost cycle, has not been given yet.
-    fn gaps(&self, name: &str, links: &[u8], alarms: &[usize]) -> Vec<String> {
-        let mut gaps = Vec::new();
-        for &link in links {
-            if self.accepted[usize::from(link)] == 0 {
-                gaps.push(format!("{name} accepted in link {link}"));
-            }
-        }
-        for &alarm in alarms {
-            if self.alarms[alarm] == 0 {
-                gaps.push(format!("{name} with alarm {alarm}"));
-            }
-        }
-        if self.lost_cycles == 0 {
-            gaps.push(format!("{name} in a lost cycle"));
-        }
-        gaps
-    }
-}
-
 /// All calls so far.
 pub struct Tally {
     codes: Vec<Replies>,
@@ -81,7 +43,8 @@ pub struct Tally {
     /// Accepted commands over more than one region, by the codes that have a span.
     crossings: BTreeMap<u8, u64>,
     places: Places,
-    lost: Lost,
+    failures: Failures,
+    turned: Turned,
 }
 
 impl Default for Tally {
@@ -93,7 +56,8 @@ impl Default for Tally {
             numbers: BTreeMap::new(),
             crossings: BTreeMap::new(),
             places: Places::default(),
-            lost: Lost::default(),
+            failures: Failures::default(),
+            turned: Turned::default(),
         }
     }
 }
@@ -109,17 +73,18 @@ impl Tally {
             self.add_reply(before, after, reply);
             self.places.add(reply[0], reply[3] & 15, answer >> 32);
         }
+        if call == Call::Turn {
+            self.turned.add(answer as u32, before, after);
+        }
     }
 
     fn add_reply(&mut self, before: &[u8], after: &Inputs, reply: &[u8]) {
         let (alarm, link) = (usize::from(reply[3] & 15), before[LINK_AT]);
-        let lost = link == SYNC && after.state[LINK_AT] == ASYNC;
-        self.codes[usize::from(reply[0])].add(link, alarm, lost);
-        self.identities[usize::from(reply[2] >> 6)].add(link, alarm, lost);
-        if lost {
-            self.lost.add(before, after.command[1]);
-        }
-        if !lost && alarm == 0 && crosses_regions(after) {
+        let cycle = Cycle::of(before, &after.state);
+        self.codes[usize::from(reply[0])].add(link, alarm, cycle);
+        self.identities[usize::from(reply[2] >> 6)].add(link, alarm, cycle);
+        self.failures.add(cycle, before, after, alarm == 0);
+        if cycle == Cycle::Passed && alarm == 0 && crosses_regions(after) {
             *self.crossings.entry(reply[0]).or_insert(0) += 1;
         }
     }
@@ -157,7 +122,8 @@ impl Tally {
         for (identity, replies) in self.identities.iter().enumerate() {
             gaps.extend(replies.gaps(&identity_name(identity), &[1, 2, 3], &ALARMS));
         }
-        gaps.extend(self.lost.gaps());
+        gaps.extend(self.failures.gaps());
+        gaps.extend(self.turned.gaps());
         gaps.extend(self.places.gaps());
         gaps.extend(self.number_gaps());
         gaps
@@ -170,12 +136,14 @@ impl Tally {
             Call::Sheet,
             Call::Reset,
             Call::Enable,
+            Call::Turn,
             Call::Exchange,
             Call::Replay,
         ] {
             wanted.extend(sheet.map(|number| (call, number)));
         }
-        wanted.extend([(Call::Reset, 1), (Call::Enable, 1), (Call::Enable, 6)]);
+        wanted.extend([Call::Reset, Call::Enable, Call::Turn].map(|call| (call, 1)));
+        wanted.push((Call::Enable, 6));
         wanted.extend([1, 2, 3, 4, 5].map(|number| (Call::Exchange, number)));
         wanted.extend([1, 2, 5, 31, 32, 33, 34].map(|number| (Call::Replay, number)));
         wanted
@@ -193,7 +161,7 @@ impl Tally {
         for alarm in ALARMS {
             write!(formatter, " {:9}", sum.alarms[alarm])?;
         }
-        writeln!(formatter, " {:9}", sum.lost_cycles)
+        writeln!(formatter, " {:9} {:9}", sum.lost_cycles, sum.tolerated)
     }
 
     fn other_codes(&self) -> Replies {
@@ -204,6 +172,7 @@ impl Tally {
                 sum.alarms[alarm] += of_code.alarms[alarm];
             }
             sum.lost_cycles += of_code.lost_cycles;
+            sum.tolerated += of_code.tolerated;
         }
         sum
     }
@@ -271,7 +240,7 @@ impl fmt::Display for Tally {
         for alarm in ALARMS {
             write!(formatter, " {:>9}", format!("alarm {alarm}"))?;
         }
-        writeln!(formatter, "      lost")?;
+        writeln!(formatter, " {:>9} {:>9}", "lost", "tolerated")?;
         for (&code, name) in CODES.iter().zip(NAMES) {
             self.write_row(formatter, name, &self.codes[usize::from(code)])?;
         }
@@ -285,7 +254,7 @@ impl fmt::Display for Tally {
                 "code {code:02X} accepted over more than one region: {count}"
             )?;
         }
-        write!(formatter, "{}{}", self.lost, self.places)?;
+        write!(formatter, "{}{}{}", self.failures, self.turned, self.places)?;
         for (&(call, number), count) in &self.numbers {
             writeln!(formatter, "{call:?} with number {number}: {count}")?;
         }

@@ -7,7 +7,7 @@ use crate::trial::plan::{Plan, LENGTHS};
 use crate::trial::probe::Outcome;
 use crate::trial::rig::Rig;
 use crate::trial::samples::both_ends;
-use crate::trial::states::{plain_state, ASYNC, DISABLED, DISCONNECTED};
+use crate::trial::states::{old_of, plain_state, ASYNC, DISABLED, DISCONNECTED};
 
 pub fn run(rig: &mut Rig) -> Outcome {
     rig.origin = "directed: buffers of wrong length".to_string();
@@ -57,7 +57,7 @@ fn replay_with(rig: &mut Rig, state: &[u8], memory: usize) -> Outcome {
     Ok(())
 }
 
-/// Valid, invalid, and of wrong length.
+/// Valid, invalid, from before request 9, and of wrong length.
 fn states(plan: &Plan) -> Vec<Vec<u8>> {
     let valid = plain_state(plan.pdu_length, ASYNC);
     let mut invalid = valid.clone();
@@ -66,8 +66,10 @@ fn states(plan: &Plan) -> Vec<Vec<u8>> {
         plain_state(plan.pdu_length, DISABLED),
         plain_state(plan.pdu_length, DISCONNECTED),
         invalid,
+        old_of(&valid),
+        old_of(&plain_state(plan.pdu_length, DISABLED)),
     ];
-    for length in [0, 1, 9, 11, 20, 300] {
+    for length in [0, 1, 9, 10, 12, 20, 300] {
         let mut resized = valid.clone();
         resized.resize(length, 0);
         states.push(resized);

@@ -9,7 +9,7 @@ use crate::trial::probe::{exchange_from, take_plan, unexpected, Outcome};
 use crate::trial::recorder::Recorder;
 use crate::trial::report::Difference;
 use crate::trial::rig::Rig;
-use crate::trial::samples::both_ends;
+use crate::trial::samples::tolerant;
 use crate::trial::states::{counting_state, plain_state, ASYNC, DISCONNECTED};
 
 const IDENTITIES: [u8; 4] = [0x00, 0x40, 0x80, 0xC0];
@@ -20,21 +20,23 @@ const LAST_MN: u8 = 3;
 
 pub fn run(rig: &mut Rig) -> Outcome {
     for length in LENGTHS {
-        let plan = both_ends(length);
-        take_plan(rig, &plan);
-        for (state, command) in situations(&plan) {
-            rig.origin = "directed: every identity".to_string();
-            identities(rig, &state, &command)?;
-            rig.origin = "directed: every other bit of octets 2 and 3".to_string();
-            single_bits(rig, &state, &command)?;
+        for tolerance in [None, Some(1)] {
+            let plan = tolerant(length, tolerance);
+            take_plan(rig, &plan);
+            for (state, command) in situations(&plan) {
+                rig.origin = "directed: every identity".to_string();
+                identities(rig, &state, &command)?;
+                rig.origin = "directed: every other bit of octets 2 and 3".to_string();
+                single_bits(rig, &state, &command)?;
+            }
+            rig.origin = "directed: identities in a replay".to_string();
+            replays(rig, &plan)?;
         }
-        rig.origin = "directed: identities in a replay".to_string();
-        replays(rig, &plan)?;
     }
     Ok(())
 }
 
-/// Accepted, alarms 8, 9, 10 (at L 8 it is 9) and 12, and a lost cycle.
+/// Accepted, alarms 8, 9, 10 (at L 8 it is 9) and 12, and a cycle lost or, where the sheet allows it, tolerated.
 fn situations(plan: &Plan) -> Vec<(Vec<u8>, Vec<u8>)> {
     let length = plan.pdu_length;
     let mut situations = Vec::new();
@@ -48,7 +50,7 @@ fn situations(plan: &Plan) -> Vec<(Vec<u8>, Vec<u8>)> {
         let counting = counting_state(length, LAST_MN, 9);
         situations.push((plain_state(length, DISCONNECTED), command.clone()));
         situations.push((plain_state(length, ASYNC), command.clone()));
-        // In step, and lost by MN and by SN.
+        // In step, and failing by MN and by SN.
         for wrong in [0x00, 0x01, 0x10] {
             let mut command = command.clone();
             build::follow(&mut command, &counting);
@@ -107,7 +109,7 @@ fn left(
     ])
 }
 
-/// An accepted, a refused and a lost exchange of one identity.
+/// An accepted, a refused and a failing exchange of one identity.
 fn record(plan: &Plan, identity: u8) -> Recorder {
     let memory = build::distinct_octets(plan.memory_length());
     let state = counting_state(plan.pdu_length, LAST_MN, 9);
@@ -149,7 +151,7 @@ mod tests {
     use crate::trial::engines::PEER;
 
     #[test]
-    fn each_identity_meets_each_alarm_and_a_lost_cycle() {
+    fn each_identity_meets_each_alarm_and_each_failure() {
         let mut rig = Rig::new(PEER);
         assert!(run(&mut rig).is_ok());
         let gaps = rig.tally.gaps();

@@ -5,7 +5,7 @@ use crate::trial::plan::{Plan, LENGTHS};
 use crate::trial::probe::{exchange_from, take_plan, Outcome};
 use crate::trial::rig::Rig;
 use crate::trial::samples::both_ends;
-use crate::trial::states::{counting_state, plain_state, ASYNC, DISCONNECTED, SYNC};
+use crate::trial::states::{counting_state, plain_state, ASYNC, DISCONNECTED, KIND, SYNC};
 
 pub fn run(rig: &mut Rig) -> Outcome {
     for length in LENGTHS {
@@ -30,7 +30,7 @@ fn states(pdu_length: u8) -> Vec<Vec<u8>> {
         plain_state(pdu_length, SYNC),
         counting_state(pdu_length, 14, 15),
     ];
-    states.push(vec![0x11, 3, pdu_length, 1, 9, 1, 15, 7, 0, 0]);
+    states.push(vec![KIND, 3, pdu_length, 1, 9, 1, 15, 7, 0, 0, 0]);
     let mut latched = Vec::new();
     for state in states {
         for command_latch in [0, 8, 9, 10, 12] {
@@ -64,7 +64,7 @@ fn every_code(rig: &mut Rig, plan: &Plan) -> Outcome {
 fn alarm_modes(rig: &mut Rig, plan: &Plan) -> Outcome {
     for state in [
         plain_state(plan.pdu_length, ASYNC),
-        vec![0x11, 2, plan.pdu_length, 0, 1, 0, 0, 0, 10, 12],
+        vec![KIND, 2, plan.pdu_length, 0, 1, 0, 0, 0, 10, 12, 0],
     ] {
         for code in [0x05, 0x06] {
             for octet in 0..=255u16 {

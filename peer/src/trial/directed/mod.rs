@@ -2,6 +2,8 @@
 
 mod buffers;
 mod data;
+mod failing_traces;
+mod failures;
 mod identities;
 mod lacking;
 mod limits;
@@ -11,7 +13,9 @@ mod parameters;
 mod places;
 mod sheets;
 mod states;
+mod tolerances;
 mod traces;
+mod turns;
 mod watchdog;
 mod wrong;
 
@@ -22,8 +26,10 @@ use super::rig::Rig;
 pub fn run(rig: &mut Rig) -> Outcome {
     buffers::run(rig)?;
     states::run(rig)?;
+    turns::run(rig)?;
     links::run(rig)?;
     watchdog::run(rig)?;
+    failures::run(rig)?;
     identities::run(rig)?;
     parameters::run(rig)?;
     data::run(rig)?;
@@ -32,6 +38,8 @@ pub fn run(rig: &mut Rig) -> Outcome {
     wrong::run(rig)?;
     lacking::run(rig)?;
     limits::run(rig)?;
+    tolerances::run(rig)?;
     sheets::run(rig)?;
+    failing_traces::run(rig)?;
     traces::run(rig)
 }

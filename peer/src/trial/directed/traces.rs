@@ -8,7 +8,7 @@ use crate::trial::probe::{take_plan, Outcome};
 use crate::trial::recorder::Recorder;
 use crate::trial::rig::Rig;
 use crate::trial::samples::both_ends;
-use crate::trial::states::{plain_state, ASYNC, DISABLED};
+use crate::trial::states::{old_of, plain_state, ASYNC, DISABLED, LENGTH};
 
 const DIFFERENT: u64 = 34;
 const CUT: u64 = 33;
@@ -138,9 +138,10 @@ fn change_kinds(rig: &mut Rig, recorder: &Recorder, length: usize) -> Outcome {
 fn refusals(rig: &mut Rig, recorder: &Recorder, plan: &Plan) -> Outcome {
     for state in [
         plain_state(plan.pdu_length, DISABLED),
-        vec![0; 10],
+        vec![0; LENGTH],
         vec![],
-        vec![0x11; 11],
+        vec![0x12; LENGTH + 1],
+        old_of(&recorder.state),
     ] {
         for memory in [
             0,
