@@ -109,7 +109,7 @@ fault "the communication latch cleared in a tolerated cycle" engine/exchange.rs 
 fault "the command latch cleared in a tolerated cycle" engine/exchange.rs "$(beside 'outcome.state.command_latch = 0;')"
 fault "dual dropped in a tolerated cycle" engine/exchange.rs "$(beside 'outcome.state.dual = false;')"
 fault "link 2 in a tolerated cycle" engine/exchange.rs "$(beside 'outcome.state.link = Link::AsyncConnected;')"
-chosen "RSN not advanced" engine/exchange.rs "$(counted_so 'c.rsn = b.rsn;')"
+fault "RSN not advanced" engine/exchange.rs "$(counted_so 'c.rsn = b.rsn;')"
 fault "RSN out of SN" engine/exchange.rs "$(counted_so 'c.rsn = (command[1] >> 4) + 1 \& 15; let _ = b;')"
 fault "RSN runs to 16 in a tolerated cycle" engine/exchange.rs "$(counted_so 'c.rsn = b.rsn + 1;')"
 fault "last MN not taken" engine/exchange.rs "$(counted_so 'c.last_mn = b.last_mn;')"
@@ -165,7 +165,7 @@ fault "the count kept by DISCONNECT" engine/mod.rs \
     's/outcome.store(state, memory, command);/& if before.failures() > 0 \&\& outcome.state.link == Link::Disconnected { state[10] = before.failures(); }/'
 fault "kind 11 written" engine/state.rs '/pub fn write/,/^    }/s/KIND,/OLD_KIND,/'
 fault "kind 11 in eleven octets taken" engine/state.rs 's/record\[0\] != KIND/(record[0] != KIND \&\& record[0] != OLD_KIND)/'
-chosen "an old record enabled" engine/mod.rs \
+fault "an old record enabled" engine/mod.rs \
     '/^fn try_enable/,/^}/s/let before = /if State::read_old(state, \&sheet).is_some() \&\& state[1] == 0 { state[1] = 1; return Ok(()); } &/'
 fault "an old record exchanged" engine/mod.rs \
     '/^fn try_exchange/,/^}/s/let before = /if State::read_old(state, \&sheet).is_some() { return Ok(answer::done_at(0)); } &/'

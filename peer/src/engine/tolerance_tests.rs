@@ -139,9 +139,10 @@ fn no_other_reply_has_bit_1() {
     }
 }
 
-/// Code and WDT of the next command: the one asked for, or one that fails by MN, by SN or by both.
+/// The WDT that this state asks for, with so much added to its MN and its SN.
 fn wrong_by(state: [u8; 11], mn: u8, sn: u8) -> u8 {
-    (state[7] + sn) % 16 << 4 | (state[6] + 1 + mn) % 16
+    let (mn, sn) = ((state[6] + 1 + mn) % 16, (state[7] + sn) % 16);
+    sn << 4 | mn
 }
 
 /// The state after one NOP with this WDT, whose reply has this octet 2.
