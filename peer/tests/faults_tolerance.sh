@@ -1,5 +1,5 @@
 # Sourced by faults: the faults against request 9, failures in a row that a sheet allows, the count of them in the state record, and the turning call.
-# shellcheck shell=sh
+# shellcheck shell=sh disable=SC2016 # $turn is the macro's own word
 
 # beside RUST: done in a tolerated failure too
 beside() {
