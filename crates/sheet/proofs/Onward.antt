@@ -5,15 +5,15 @@ use mathlib.Core.Path.{_≡_, refl, sym, ap, subst, _∙_}
 use mathlib.Core.List.{List}
 use Prim.Native.Nat.{ℕ, _+_, _-_, _*_, _≤_, _<_}
 use native.Mathlib.Omega.{arith}
-use borrow.Author.Tests.{eqb-true, eqb-false, ltb-false, lt-leb, eq-eqb, ne-eqb, not-false}
+use borrow.Author.Tests.{eqb-false, ltb-false, leb-true, eq-eqb, ne-eqb, not-false}
 use lib.Dec.{eqb, ltb}
 use lib.ListN.{length, getD, drop}
-use Rattle.octets.proofs.Cases.{eq-or-ne, lt-or-le}
-use Rattle.octets.proofs.Pick.{passed, pick-eq, pick-ne, pick-key}
+use Rattle.octets.proofs.Cases.{eq-or-ne}
+use Rattle.octets.proofs.Pick.{passed, pick-yes, pick-no, pick-eq, pick-ne, pick-key}
 use Rattle.regions.specs.Apart.{Apart}
 use Rattle.regions.specs.Region.{regionAt, regionsOf}
 use Rattle.regions.proofs.Apart.{apart-listed}
-use Rattle.sheet.specs.Kinds.{isLength, isKind, sizeOf, misplacedOf}
+use Rattle.sheet.specs.Kinds.{isKind, isLink, lengthFits, sizeOf, misplacedOf}
 use Rattle.sheet.specs.Reading.{linkOf, regionOf, parameterOf, itemOf, toleranceOf, bodyOf, recordOf}
 use Rattle.sheet.specs.Sound.{Sound, Counted, Standing, behind}
 use Rattle.sheet.specs.Walk.{none, placeOf}
@@ -53,11 +53,11 @@ count-zero kind k n e f =
 
 -- what a record behind the link record that is in its place tells
 pub in-place : (kind : ℕ) (so : Counts) → misplacedOf false kind so ≡ false
-    → (kind ≡ 1 → ⊥) × (kind ≡ 2 → so .parameters ≡ 0) × (kind ≡ 2 → so .items ≡ 0) × (kind ≡ 2 → so .tolerances ≡ 0)
+    → (isLink kind ≡ false) × (kind ≡ 2 → so .parameters ≡ 0) × (kind ≡ 2 → so .items ≡ 0) × (kind ≡ 2 → so .tolerances ≡ 0)
     × (kind ≡ 3 → so .items ≡ 0) × (kind ≡ 3 → so .tolerances ≡ 0) × (kind ≡ 4 → so .tolerances ≡ 0) × (kind ≡ 6 → so .tolerances ≡ 0)
 unfolding misplacedOf
 in-place kind so m =
-    let a = eqb kind 1 in
+    let a = isLink kind in
     let b = eqb kind 2 && ltb 0 (so .parameters) in
     let c = eqb kind 2 && ltb 0 (so .items) in
     let d = eqb kind 2 && ltb 0 (so .tolerances) in
@@ -71,7 +71,7 @@ in-place kind so m =
     let o₅ = or-false (a || b || c) d (o₄ .0) in
     let o₆ = or-false (a || b) c (o₅ .0) in
     let o₇ = or-false a b (o₆ .0) in (
-      eqb-false kind 1 (o₇ .0),
+      o₇ .0,
       λ z. count-zero kind 2 _ z (o₇ .1),
       λ z. count-zero kind 2 _ z (o₆ .1),
       λ z. count-zero kind 2 _ z (o₅ .1),
@@ -82,13 +82,18 @@ in-place kind so m =
     )
 
 -- the kind that is left where the others are not
-pub last-kind : (kind : ℕ) → isKind kind ≡ true → (kind ≡ 0 → ⊥) → (kind ≡ 1 → ⊥) → (kind ≡ 2 → ⊥) → (kind ≡ 3 → ⊥) → (kind ≡ 4 → ⊥) → kind ≡ 6
+pub last-kind : (kind : ℕ) → isKind kind ≡ true → (kind ≡ 0 → ⊥) → isLink kind ≡ false → (kind ≡ 2 → ⊥) → (kind ≡ 3 → ⊥) → (kind ≡ 4 → ⊥) → kind ≡ 6
 unfolding isKind
 last-kind kind known n₀ n₁ n₂ n₃ n₄ =
-    ⊎-elim
-    (λ (l : 4 < kind). eqb-true kind 6 (sym (ap (λ (b : Bool). b || eqb kind 6) (lt-leb kind 4 l)) ∙ known))
-    (λ (l : kind ≤ 4). absurd (let z : ⊥ = omega arith in z))
-    (lt-or-le 4 kind)
+    let most = leb-true kind 6 known in
+    let o = or-false (eqb kind 1) (eqb kind 5) n₁ in
+    let no₁ = eqb-false kind 1 (o .0) in
+    let no₅ = eqb-false kind 5 (o .1) in
+    omega arith
+
+-- a link record is no end record
+pub link-begins : (kind : ℕ) → isLink kind ≡ true → kind ≡ 0 → ⊥
+link-begins kind e z = true≢false (sym e ∙ ap isLink z)
 
 -- what the walk goes on with behind a record of n octets
 abbrev pub Goes : List ℕ → List ℕ → ℕ → Counts → Type 0
@@ -99,13 +104,14 @@ module _ (s rest : List ℕ) (so : Counts) (n : ℕ) (next : Counts) (st : Stand
       → bodyOf (getD rest 0 0) s rest so ≡ Record n next → Goes s rest n next
   unfolding misplacedOf bodyOf linkOf sizeOf
   first-record z e m fits body =
-      let kind : getD rest 0 0 ≡ 1 = eqb-true (getD rest 0 0) 1 (not-false _ m) in
+      let kind : isLink (getD rest 0 0) ≡ true = not-false _ m in
+      let some = link-begins (getD rest 0 0) kind in
       let whole : rest ≡ s = st .part ∙ ap (λ (i : ℕ). drop i s) z in
-      let p = passed _ bad-record (sym (pick-key 0 _ _ kind refl ∙ pick-eq _ _ kind) ∙ body) in
+      let p = passed _ bad-record (sym (pick-ne _ _ some ∙ pick-yes _ _ kind) ∙ body) in
       let four : 4 ≡ n = same-size (p .1) in
-      let size : sizeOf (getD rest 0 0) ≡ 4 = pick-key 0 _ _ kind refl ∙ pick-eq _ _ kind in
+      let size : sizeOf (getD rest 0 0) ≡ 4 = pick-ne _ _ some ∙ pick-yes _ _ kind in
       let to : 4 ≡ placeOf s rest + n = omega arith in
-      let first : isLength (getD s 1 0) ≡ true = ap (λ (l : List ℕ). isLength (getD l 1 0)) (sym whole) ∙ not-false _ (p .0) in (
+      let first : lengthFits (getD s 0 0) (getD s 1 0) ≡ true = ap (λ (l : List ℕ). lengthFits (getD l 0 0) (getD l 1 0)) (sym whole) ∙ not-false _ (p .0) in (
         omega (arith, four),
         subst (λ (k : ℕ). k ≤ length rest) (size ∙ four) fits,
         subst (λ (c : Counts). Sound s (placeOf s rest + n) c) (sym e ∙ same-counts (p .1))
@@ -113,14 +119,14 @@ module _ (s rest : List ℕ) (so : Counts) (n : ℕ) (next : Counts) (st : Stand
             (step-link s (subst (λ (c : Counts). Sound s 0 c) e (subst (λ (at : ℕ). Sound s at so) z (st .sound))) first)),
       )
 
-  module _ (here : placeOf s rest ≡ behind so) (first : isLength (getD s 1 0) ≡ true) (m : misplacedOf false (getD rest 0 0) so ≡ false)
+  module _ (here : placeOf s rest ≡ behind so) (first : lengthFits (getD s 0 0) (getD s 1 0) ≡ true) (m : misplacedOf false (getD rest 0 0) so ≡ false)
       (fits : sizeOf (getD rest 0 0) ≤ length rest) where
     later-region : getD rest 0 0 ≡ 2 → regionOf s rest so ≡ Record n next → Goes s rest n next
     unfolding regionOf sizeOf
     later-region kind body =
         let o = in-place (getD rest 0 0) so m in
         let q = region-read _ _ so n next (rw (st .part) at body) in
-        let size : sizeOf (getD rest 0 0) ≡ 10 = pick-key 0 _ _ kind refl ∙ pick-key 1 _ _ kind refl ∙ pick-eq _ _ kind in (
+        let size : sizeOf (getD rest 0 0) ≡ 10 = pick-key 0 _ _ kind refl ∙ pick-no _ _ (o .0) ∙ pick-eq _ _ kind in (
           omega (arith, q .size),
           subst (λ (k : ℕ). k ≤ length rest) (size ∙ q .size) fits,
           step-region s (placeOf s rest) so (st .sound) first here n next
@@ -132,7 +138,7 @@ module _ (s rest : List ℕ) (so : Counts) (n : ℕ) (next : Counts) (st : Stand
     later-parameter kind body =
         let o = in-place (getD rest 0 0) so m in
         let q = parameter-read _ _ _ so n next (rw (st .part) at body) in
-        let size : sizeOf (getD rest 0 0) ≡ 8 = pick-key 0 _ _ kind refl ∙ pick-key 1 _ _ kind refl ∙ pick-key 2 _ _ kind refl ∙ pick-eq _ _ kind in (
+        let size : sizeOf (getD rest 0 0) ≡ 8 = pick-key 0 _ _ kind refl ∙ pick-no _ _ (o .0) ∙ pick-key 2 _ _ kind refl ∙ pick-eq _ _ kind in (
           omega (arith, q .size),
           subst (λ (k : ℕ). k ≤ length rest) (size ∙ q .size) fits,
           step-parameter s (placeOf s rest) so (st .sound) first here n next (o .4 kind) (o .5 kind) q,
@@ -156,14 +162,14 @@ module _ (s rest : List ℕ) (so : Counts) (n : ℕ) (next : Counts) (st : Stand
     unfolding bodyOf sizeOf
     later-record known n₀ body =
         let n₁ = in-place (getD rest 0 0) so m .0 in
-        let b = sym (pick-ne _ _ n₀ ∙ pick-ne _ _ n₁) ∙ body in
+        let b = sym (pick-ne _ _ n₀ ∙ pick-no _ _ n₁) ∙ body in
         ⊎-elim
         (λ k₂. later-region k₂ (sym (pick-eq _ _ k₂) ∙ b))
         (λ n₂.
         ⊎-elim
         (λ k₃. later-parameter k₃ (sym (pick-ne _ _ n₂ ∙ pick-eq _ _ k₃) ∙ b))
         (λ n₃.
-        let size = pick-ne _ _ n₀ ∙ pick-ne _ _ n₁ ∙ pick-ne _ _ n₂ ∙ pick-ne _ _ n₃ in
+        let size = pick-ne _ _ n₀ ∙ pick-no _ _ n₁ ∙ pick-ne _ _ n₂ ∙ pick-ne _ _ n₃ in
         let c = sym (pick-ne _ _ n₂ ∙ pick-ne _ _ n₃) ∙ b in
         ⊎-elim
         (λ k₄. later-item k₄ (size ∙ pick-eq _ _ k₄) (sym (pick-eq _ _ k₄) ∙ c))

@@ -17,7 +17,7 @@ use Rattle.regions.specs.Search.{totalOf, spanHas}
 use Rattle.regions.specs.declared.Right.the-variants.{Mapped}
 use Rattle.regions.proofs.Apart.{total-more}
 use Rattle.sheet.specs.Entries.{parameterFrom, parameterAt, itemFrom, itemAt}
-use Rattle.sheet.specs.Kinds.{isLength, endBefore, leastNumber, leastCode}
+use Rattle.sheet.specs.Kinds.{lengthFits, endBefore, leastNumber, leastCode}
 use Rattle.sheet.specs.Reading.{tailOf}
 use Rattle.sheet.specs.Walk.{none}
 use Rattle.sheet.specs.Sound.{FineRegion, FineParameter, FineItem, Sound, behind}
@@ -53,7 +53,7 @@ one-more-pair P n below last i h =
     (λ l. subst P (let e : n - 1 ≡ i = omega arith in e) (last (λ z. let k : ⊥ = omega arith in k)))
     (lt-or-le (suc i) n)
 
-module _ (s : List ℕ) (at : ℕ) (so : Counts) (ok : Sound s at so) (first : isLength (getD s 1 0) ≡ true) (here : at ≡ behind so) (n : ℕ) (next : Counts) where
+module _ (s : List ℕ) (at : ℕ) (so : Counts) (ok : Sound s at so) (first : lengthFits (getD s 0 0) (getD s 1 0) ≡ true) (here : at ≡ behind so) (n : ℕ) (next : Counts) where
   pub step-region : so .parameters ≡ 0 → so .items ≡ 0 → so .tolerances ≡ 0 → RegionRead (regionFrom (drop at s) 0) (endBefore s so) so n next → Sound s (at + n) next
   unfolding endBefore
   step-region np nk nt q =
@@ -171,7 +171,7 @@ module _ (s : List ℕ) (at : ℕ) (so : Counts) (ok : Sound s at so) (first : i
       })
 
 -- at the front: the link record was read
-pub step-link : (s : List ℕ) → Sound s 0 none → isLength (getD s 1 0) ≡ true → Sound s 4 none
+pub step-link : (s : List ℕ) → Sound s 0 none → lengthFits (getD s 0 0) (getD s 1 0) ≡ true → Sound s 4 none
 step-link s ok first = record {
   begun = inr (refl, first);
   few-regions = ok .few-regions;

@@ -8,8 +8,9 @@
 --     tolerance-small   at most 3 failures in a row are tolerated
 --     length-least      L is at least 8
 --     length-most       and at most 64
+--     length-short      and 16 in the short type
 --     same-layout       a sheet has one layout
-use mathlib.Core.Bool.{Bool, true, false, true≢false}
+use mathlib.Core.Bool.{Bool, true, false, not, _||_, true≢false, and-eq-true-iff}
 use mathlib.Core.Logic.{⊎-elim}
 use mathlib.Core.Path.{_≡_, refl, sym, ap, subst, _∙_}
 use mathlib.Core.List.{List}
@@ -24,10 +25,10 @@ use Rattle.octets.proofs.Pick.{passed, pick-eq, pick-ne}
 use Rattle.regions.specs.Apart.{Apart}
 use Rattle.regions.specs.Region.{regionsOf}
 use Rattle.sheet.specs.Entries.{parameterAt, parametersOf, itemFrom, itemAt, itemsOf, soughtParameter, soughtItem}
-use Rattle.sheet.specs.Kinds.{isLength, misplacedOf}
+use Rattle.sheet.specs.Kinds.{isLength, lengthFits, misplacedOf}
 use Rattle.sheet.specs.Reading.{recordOf}
 use Rattle.sheet.specs.Sound.{Sound, Counted, Standing, FineParameter, FineItem, behind, countsOf}
-use Rattle.sheet.specs.Walk.{none, toleranceIn, placeOf, layoutOf, endedOf, onward, walkOf, verdictOf}
+use Rattle.sheet.specs.Walk.{none, formOf, toleranceIn, placeOf, layoutOf, endedOf, onward, walkOf, verdictOf}
 use Rattle.sheet.specs.declared.entries.Parameter.{Parameter}
 use Rattle.sheet.specs.declared.entries.Item.{Item}
 use Rattle.sheet.specs.declared.entries.SoughtParameter.{SoughtParameter}
@@ -36,17 +37,19 @@ use Rattle.sheet.specs.declared.records.Counts.{Counts}
 use Rattle.sheet.specs.declared.records.Fault.{Fault}
 use Rattle.sheet.specs.declared.records.Reading.{Reading}
 use Rattle.sheet.specs.declared.records.Reading.the-variants.{Record, Bad}
+use Rattle.sheet.specs.declared.walk.Form.the-variants.{Enhanced, Short}
 use Rattle.sheet.specs.declared.walk.Layout.{Layout}
 use Rattle.sheet.specs.declared.walk.Verdict.{Verdict}
 use Rattle.sheet.specs.declared.walk.Verdict.the-variants.{Valid, Faulty}
 use Rattle.sheet.proofs.Judged.{bad-record}
-use Rattle.sheet.proofs.Onward.{sound-apart, sound-counted, record-sound}
+use Rattle.sheet.proofs.Onward.{link-begins, sound-apart, sound-counted, record-sound}
 use Rattle.sheet.proofs.Sought.{sought-keeps}
 use Rattle.sheet.proofs.Steps.{start-sound}
 use Rattle.sheet.proofs.Walked.{standing-behind}
 
 pub record ValidSheet (s : List ℕ) (lay : Layout) : Type 0 where
-  pub l-length : isLength (lay .l) ≡ true
+  pub l-fits : lengthFits (getD s 0 0) (lay .l) ≡ true
+  pub form : lay .form ≡ formOf (getD s 0 0)
   pub short : length s ≤ 2048
   pub octets : length s ≡ behind (countsOf lay) + 1
   pub sound : Sound s (behind (countsOf lay)) (countsOf lay)
@@ -74,11 +77,11 @@ module _ (s rest : List ℕ) (so : Counts) (st : Standing s rest so) (lay : Layo
       (λ z.
       let t = eq-eqb (length rest) (length s) (omega (arith, z .0)) in
       let m = subst (λ (b : Bool). misplacedOf b (getD rest 0 0) so ≡ false) t (p₃ .0) in
-      let one = eqb-true (getD rest 0 0) 1 (not-false _ m) in
-      absurd (let w : ⊥ = omega arith in w))
+      absurd (link-begins (getD rest 0 0) (not-false _ m) k))
       (λ h.
       subst (λ (l : Layout). ValidSheet s l) (same-layout (q .1)) (record {
-        l-length = h .1;
+        l-fits = h .1;
+        form = refl;
         short = st .short;
         octets = omega (arith, h .0);
         sound = subst (λ (at : ℕ). Sound s at so) (h .0) (st .sound);
@@ -121,6 +124,9 @@ valid-sheet s lay v =
     })
     lay (p .1)
 
+enhanced-is : Enhanced ≡ Short → ⊥
+enhanced-is e = let z : _≡_ {A = ℕ} 0 1 = cc in omega arith
+
 five-least : (l : ℕ) → isLength l ≡ true → 8 ≤ l
 unfolding isLength
 five-least l e =
@@ -148,6 +154,21 @@ five-most l e =
 
     long : 64 < l → isLength l ≡ false
     long h = rw (none 8 h (omega arith), none 16 h (omega arith), none 32 h (omega arith), none 48 h (omega arith), none 64 h (omega arith))
+
+-- an L that fits a link record's kind is one of the five, and 16 where the kind picks the short type
+fits-five : (kind l : ℕ) → lengthFits kind l ≡ true → isLength l ≡ true
+unfolding lengthFits
+fits-five kind l e = and-eq-true-iff (isLength l) _ .0 e .0
+
+fits-short : (kind l : ℕ) → lengthFits kind l ≡ true → formOf kind ≡ Short → l ≡ 16
+unfolding lengthFits formOf
+fits-short kind l e short =
+    ⊎-elim
+    (λ (k : kind ≡ 5).
+    let q = and-eq-true-iff (isLength l) _ .0 e .1 in
+    eqb-true l 16 (sym (ap (λ (b : Bool). not b || eqb l 16) (eq-eqb kind 5 k)) ∙ q))
+    (λ (k : kind ≡ 5 → ⊥). absurd (enhanced-is (sym (pick-ne _ _ k) ∙ short)))
+    (eq-or-ne kind 5)
 
 module _ (s : List ℕ) (lay : Layout) (ok : ValidSheet s lay) where
   pub valid-apart : Apart 0 (regionsOf s (lay .regions))
@@ -194,10 +215,14 @@ module _ (s : List ℕ) (lay : Layout) (ok : ValidSheet s lay) where
 
   -- the shortest PDU has 8 octets
   pub length-most : lay .l ≤ 64
-  length-most = five-most (lay .l) (ok .l-length)
+  length-most = five-most (lay .l) (fits-five (getD s 0 0) (lay .l) (ok .l-fits))
 
   pub length-least : 8 ≤ lay .l
-  length-least = five-least (lay .l) (ok .l-length)
+  length-least = five-least (lay .l) (fits-five (getD s 0 0) (lay .l) (ok .l-fits))
+
+  -- the short type's PDU has 16 octets
+  pub length-short : lay .form ≡ Short → lay .l ≡ 16
+  length-short e = fits-short (getD s 0 0) (lay .l) (ok .l-fits) (sym (ok .form) ∙ e)
 
 pub tolerance-small : (s : List ℕ) (lay : Layout) → verdictOf s ≡ Valid lay → lay .tolerance ≤ 3
 unfolding toleranceIn

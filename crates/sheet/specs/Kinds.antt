@@ -12,19 +12,27 @@ use Rattle.sheet.specs.declared.records.Counts.{Counts}
 unfoldable pub isLength : ℕ → Bool
 isLength l = eqb l 8 || eqb l 16 || eqb l 32 || eqb l 48 || eqb l 64
 
--- the kinds that there are: 00 end, 01 link, 02 region, 03 parameter, 04 ID item; request 9: 06 tolerance
+-- the kinds that there are: 00 end, 01 link, 02 region, 03 parameter, 04 ID item; request 7: 05 link of the short type; request 9: 06 tolerance
 unfoldable pub isKind : ℕ → Bool
-isKind kind = leb kind 4 || eqb kind 6
+isKind kind = leb kind 6
+
+-- request 7: "A record of new kind 05, body as kind 01, .. stands in the link record's place"
+abbrev pub isLink : ℕ → Bool
+isLink kind = eqb kind 1 || eqb kind 5
+
+-- a link record's L: one of the five; request 7: "L 16" in kind 05
+unfoldable pub lengthFits : ℕ → ℕ → Bool
+lengthFits kind l = isLength l && (not (eqb kind 5) || eqb l 16)
 
 -- the octets of a record, its kind octet among them
 unfoldable pub sizeOf : ℕ → ℕ
-sizeOf kind = pick (eqb kind 0) 1 (pick (eqb kind 1) 4 (pick (eqb kind 2) 10 (pick (eqb kind 3) 8 (pick (eqb kind 4) 35 2))))
+sizeOf kind = pick (eqb kind 0) 1 (pick (isLink kind) 4 (pick (eqb kind 2) 10 (pick (eqb kind 3) 8 (pick (eqb kind 4) 35 2))))
 
 -- "The link record comes first and once; then regions, parameters, ID items, end"; request 9: the tolerance "after the ID items and at most once"
 unfoldable pub misplacedOf : Bool → ℕ → Counts → Bool
-misplacedOf true kind so = not (eqb kind 1)
+misplacedOf true kind so = not (isLink kind)
 misplacedOf false kind so =
-    eqb kind 1
+    isLink kind
     || (eqb kind 2 && ltb 0 (so .parameters))
     || (eqb kind 2 && ltb 0 (so .items))
     || (eqb kind 2 && ltb 0 (so .tolerances))

@@ -12,7 +12,7 @@ use Rattle.regions.specs.Search.{spanHas}
 use Rattle.regions.specs.declared.Right.the-variants.{Mapped}
 use Rattle.sheet.specs.Entries.{parameterFrom, itemFrom}
 use Rattle.sheet.specs.Judging.{judgedRegion, judgedParameter, judgedItem, judgedTolerance}
-use Rattle.sheet.specs.Kinds.{isLength, isKind, sizeOf, misplacedOf, endBefore, leastNumber, leastCode}
+use Rattle.sheet.specs.Kinds.{isKind, isLink, lengthFits, sizeOf, misplacedOf, endBefore, leastNumber, leastCode}
 use Rattle.sheet.specs.declared.records.Counts.{Counts}
 use Rattle.sheet.specs.declared.records.Fault.the-variants.{Ended, Unknown, Misplaced, Range}
 use Rattle.sheet.specs.declared.records.Reading.{Reading}
@@ -22,9 +22,9 @@ use Rattle.sheet.specs.declared.records.Reading.the-variants.{Record, Ba
 abbrev pub whole : ℕ → List ℕ → Reading → Reading
 whole n rest r = pick (ltb (length rest) n) (Bad Ended) r
 
--- kind 01: L is one of the five; version and profile are free
+-- kinds 01 and 05: L fits the kind; version and profile are free
 unfoldable pub linkOf : List ℕ → Counts → Reading
-linkOf rest so = pick (not (isLength (getD rest 1 0))) (Bad Range) (Record 4 so)
+linkOf rest so = pick (not (lengthFits (getD rest 0 0) (getD rest 1 0))) (Bad Range) (Record 4 so)
 
 -- kind 02
 unfoldable pub regionOf : List ℕ → List ℕ → Counts → Reading
@@ -52,7 +52,7 @@ toleranceOf rest so = judgedTolerance (getD rest 1 0) so
 unfoldable pub bodyOf : ℕ → List ℕ → List ℕ → Counts → Reading
 bodyOf kind s rest so =
     pick (eqb kind 0) (Record 1 so)
-    (pick (eqb kind 1) (linkOf rest so)
+    (pick (isLink kind) (linkOf rest so)
     (pick (eqb kind 2) (regionOf s rest so)
     (pick (eqb kind 3) (parameterOf s rest so)
     (pick (eqb kind 4) (itemOf s rest so)

@@ -12,7 +12,7 @@ use Rattle.regions.specs.Search.{totalOf, beforeOf}
 use Rattle.regions.specs.declared.Region.{Region}
 use Rattle.regions.specs.declared.Right.the-variants.{Mapped}
 use Rattle.sheet.specs.Entries.{parameterAt, itemAt}
-use Rattle.sheet.specs.Kinds.{isLength}
+use Rattle.sheet.specs.Kinds.{lengthFits}
 use Rattle.sheet.specs.Walk.{none}
 use Rattle.sheet.specs.declared.entries.Parameter.{Parameter}
 use Rattle.sheet.specs.declared.entries.Item.{Item}
@@ -42,7 +42,7 @@ behind so = 4 + 10 * so .regions + 8 * so .parameters + 35 * so .items + 2 * so 
 
 -- the records counted in `so` are in order, and the next one begins at place `at`
 pub record Sound (s : List ℕ) (at : ℕ) (so : Counts) : Type 0 where
-  pub begun : ((at ≡ 0) × (so ≡ none)) ⊎ ((at ≡ behind so) × (isLength (getD s 1 0) ≡ true))
+  pub begun : ((at ≡ 0) × (so ≡ none)) ⊎ ((at ≡ behind so) × (lengthFits (getD s 0 0) (getD s 1 0) ≡ true))
   pub few-regions : so .regions ≤ 32
   pub few-parameters : so .parameters ≤ 64
   pub few-items : so .items ≤ 32

@@ -9,6 +9,8 @@ use Rattle.sheet.specs.declared.records.Counts.{Counts}
 use Rattle.sheet.specs.declared.records.Fault.the-variants.{Ended, Misplaced}
 use Rattle.sheet.specs.declared.records.Reading.{Reading}
 use Rattle.sheet.specs.declared.records.Reading.the-variants.{Record, Bad}
+use Rattle.sheet.specs.declared.walk.Form.{Form}
+use Rattle.sheet.specs.declared.walk.Form.the-variants.{Enhanced, Short}
 use Rattle.sheet.specs.declared.walk.Layout.{Layout}
 use Rattle.sheet.specs.declared.walk.Verdict.{Verdict}
 use Rattle.sheet.specs.declared.walk.Verdict.the-variants.{Valid, Faulty}
@@ -21,9 +23,14 @@ none = record { regions = 0; parameters = 0; items = 0; tolerances = 0; memory =
 unfoldable pub toleranceIn : List ℕ → Counts → ℕ
 toleranceIn s so = pick (eqb (so .tolerances) 0) 0 (getD s (5 + 10 * so .regions + 8 * so .parameters + 35 * so .items) 0)
 
--- the link record's L, version and profile stand at 1, 2 and 3
+-- request 7: kind 05 in the link record's place selects the short type
+unfoldable pub formOf : ℕ → Form
+formOf kind = pick (eqb kind 5) Short Enhanced
+
+-- the link record's kind stands at 0, its L, version and profile stand at 1, 2 and 3
 unfoldable pub layoutOf : List ℕ → Counts → Layout
 layoutOf s so = record {
+  form = formOf (getD s 0 0);
   l = getD s 1 0;
   version = getD s 2 0;
   profile = getD s 3 0;

@@ -3,7 +3,7 @@ use crate::records::Counts;
 ghost use mathlib.Core.Path.{_≡_};
 ghost use Prim.Native.Nat.{_+_, _-_, _*_, _≤_};
 ghost use lib.ListN.{length};
-ghost use Rattle.sheet.specs.Kinds.{isLength, isKind, misplacedOf, endBefore, leastNumber, leastCode};
+ghost use Rattle.sheet.specs.Kinds.{isLength, isKind, lengthFits, misplacedOf, endBefore, leastNumber, leastCode};
 
 // Whether a PDU length is one of the five.
 pub fn is_length(l: u8) -> bool
@@ -12,25 +12,33 @@ pub fn is_length(l: u8) -> bool
     (l == 8) | (l == 16) | (l == 32) | (l == 48) | (l == 64)
 }
 
+// Whether a link record of a kind may have a PDU length: one of the five, in the short type's 16.
+pub fn length_fits(kind: u8, l: u8) -> bool
+    ensures { λ r. ⌜ r ≡ lengthFits kind l ⌝ }
+{
+    is_length(l) & (!(kind == 5) | (l == 16))
+}
+
 // Whether a kind is one of those that a sheet may have.
 pub fn is_kind(kind: u8) -> bool
     ensures { λ r. ⌜ r ≡ isKind kind ⌝ }
 {
-    (kind <= 4) | (kind == 6)
+    kind <= 6
 }
 
-// Whether a known kind is out of place: at the front all but the link record, behind it the link record and what should come before.
+// Whether a known kind is out of place: at the front all but a link record, behind it a link record and what should come before.
 pub fn misplaced(first: bool, kind: u8, so: Counts) -> bool
     ensures { λ r. ⌜ r ≡ misplacedOf first kind so ⌝ }
 {
     if first {
-        return kind != 1;
+        return !((kind == 1) | (kind == 5));
     }
     match kind {
         1 => true,
         2 => (0 < so.parameters) | (0 < so.items) | (0 < so.tolerances),
         3 => (0 < so.items) | (0 < so.tolerances),
         4 => 0 < so.tolerances,
+        5 => true,
         6 => 0 < so.tolerances,
         _ => false,
     }

@@ -16,7 +16,7 @@ fn read_link(rest: &[u8], so: Counts) -> Reading
     if rest.len() < 4 {
         return Reading::Bad(Fault::Ended);
     }
-    if !crate::kinds::is_length(octets::octet(rest, 1)) {
+    if !crate::kinds::length_fits(octets::octet(rest, 0), octets::octet(rest, 1)) {
         return Reading::Bad(Fault::Range);
     }
     Reading::Record(4, so)
@@ -91,6 +91,7 @@ fn read_body(kind: u8, sheet: &[u8], rest: &[u8], so: Counts) -> Reading
         2 => read_region(sheet, rest, so),
         3 => read_parameter(sheet, rest, so),
         4 => read_item(sheet, rest, so),
+        5 => read_link(rest, so),
         _ => read_tolerance(rest, so),
     }
 }

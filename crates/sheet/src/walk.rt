@@ -7,10 +7,27 @@ ghost use Prim.Native.Nat.{ℕ, _≤_, _<_, _-_};
 ghost use lib.ListN.{length, drop};
 ghost use Rattle.sheet.specs.Sound.{Standing};
 ghost use Rattle.sheet.specs.Handed.{countsNumber, failedNumber, faultOf, tells, failedAt};
-ghost use Rattle.sheet.specs.Walk.{toleranceIn, layoutOf, endedOf, walkOf, verdictOf};
+ghost use Rattle.sheet.specs.Walk.{formOf, toleranceIn, layoutOf, endedOf, walkOf, verdictOf};
 
-// What a valid sheet says: the link record's three fields, the counts, how many failures in a row it tolerates, and the octets of memory.
+// The types of PDU. A sheet picks one by the kind of its first record.
+pub enum Form {
+    Enhanced,
+    Short,
+}
+
+// The type that a link record's kind picks.
+fn form_of(kind: u8) -> Form
+    ensures { λ r. ⌜ r ≡ formOf kind ⌝ }
+{
+    if kind == 5 {
+        return Form::Short;
+    }
+    Form::Enhanced
+}
+
+// What a valid sheet says: the type, the link record's three fields, the counts, how many failures in a row it tolerates, and the octets of memory.
 pub struct Layout {
+    pub form: Form,
     pub l: u8,
     pub version: u8,
     pub profile: u8,
@@ -46,6 +63,7 @@ fn laid_out(sheet: &[u8], so: Counts) -> Layout
     ensures { λ r. ⌜ r ≡ layoutOf (now (sheet .entry)) so ⌝ }
 {
     Layout {
+        form: form_of(octets::octet(sheet, 0)),
         l: octets::octet(sheet, 1),
         version: octets::octet(sheet, 2),
         profile: octets::octet(sheet, 3),

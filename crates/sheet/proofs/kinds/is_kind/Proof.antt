@@ -1,4 +1,4 @@
--- `sheet::kinds::is_kind` meets its contract: the two tests are the definition's.
+-- `sheet::kinds::is_kind` meets its contract: the test is the definition's.
 use mathlib.Core.Path.{refl}
 use Rattle.sheet.specs.Kinds.{isKind}
 use Rattle.sheet.proofs.kinds.is_kind.Statement.{statement}

@@ -45,14 +45,18 @@ returns-5 c = rw (c .before .before .if1 .left, c .before .match .keys4) (sym (o
 
 returns-6 : tie.Need-returns-6
 unfolding misplacedOf
-returns-6 c = rw (c .before .before .if1 .left, c .before .match .keys5)
+returns-6 c = rw (c .before .if1 .left, c .match .keys5)
 
 returns-7 : tie.Need-returns-7
 unfolding misplacedOf
-returns-7 c =
+returns-7 c = rw (c .before .before .if1 .left, c .before .match .keys6)
+
+returns-8 : tie.Need-returns-8
+unfolding misplacedOf
+returns-8 c =
     let kind = c .before .before .args .kind in
     let r = c .match .rest in
-    rw (c .before .if1 .left, ne-eqb kind 1 (r .0 .0 .0 .0 .1), ne-eqb kind 2 (r .0 .0 .0 .1), ne-eqb kind 3 (r .0 .0 .1), ne-eqb kind 4 (r .0 .1), ne-eqb kind 6 (r .1))
+    rw (c .before .if1 .left, ne-eqb kind 1 (r .0 .0 .0 .0 .0 .1), ne-eqb kind 2 (r .0 .0 .0 .0 .1), ne-eqb kind 3 (r .0 .0 .0 .1), ne-eqb kind 4 (r .0 .0 .1), ne-eqb kind 5 (r .0 .1), ne-eqb kind 6 (r .1))
 
 pub misplaced-spec : {M : Type 1} → statement M
-misplaced-spec = tie.close (tie.spec returns returns-2 returns-3 returns-4 returns-5 returns-6 returns-7)
+misplaced-spec = tie.close (tie.spec returns returns-2 returns-3 returns-4 returns-5 returns-6 returns-7 returns-8)

@@ -1,9 +1,11 @@
 -- `sheet::reading::read_body` meets its contract, kind by kind.
 use Prim.Native.Nat.{ℕ}
-use mathlib.Core.Path.{refl, sym, ap₂, _∙_}
+use mathlib.Core.Bool.{false}
+use mathlib.Core.Path.{_≡_, refl, sym, ap, ap₂, _∙_}
+use borrow.Author.Tests.{ne-eqb}
 use borrow.Author.Needs.{needs}
-use Rattle.octets.proofs.Pick.{pick-eq, pick-ne, pick-key, pick-ge}
-use Rattle.sheet.specs.Kinds.{sizeOf}
+use Rattle.octets.proofs.Pick.{pick-yes, pick-no, pick-eq, pick-ne, pick-key, pick-ge}
+use Rattle.sheet.specs.Kinds.{isLink, sizeOf}
 use Rattle.sheet.specs.Reading.{whole, bodyOf}
 use Rattle.sheet.specs.declared.records.Reading.{Reading}
 use Rattle.sheet.proofs.reading.read_body.Statement.{statement}
@@ -23,8 +25,8 @@ returns-2 c =
     c .read-link .ensures
     ∙ sym
     (ap₂ (λ (n : ℕ) (r : Reading). whole n (c .before .before .before .before .args .rest .now) r)
-    (pick-key 0 _ _ k refl ∙ pick-eq _ _ k)
-    (pick-key 0 _ _ k refl ∙ pick-eq _ _ k))
+    (pick-key 0 _ _ k refl ∙ pick-yes _ _ (ap isLink k))
+    (pick-key 0 _ _ k refl ∙ pick-yes _ _ (ap isLink k)))
 
 returns-3 : tie.Need-returns-3
 unfolding bodyOf sizeOf
@@ -33,8 +35,8 @@ returns-3 c =
     c .read-region .ensures
     ∙ sym
     (ap₂ (λ (n : ℕ) (r : Reading). whole n (c .before .before .before .before .args .rest .now) r)
-    (pick-key 0 _ _ k refl ∙ pick-key 1 _ _ k refl ∙ pick-eq _ _ k)
-    (pick-key 0 _ _ k refl ∙ pick-key 1 _ _ k refl ∙ pick-eq _ _ k))
+    (pick-key 0 _ _ k refl ∙ pick-no _ _ (ap isLink k) ∙ pick-eq _ _ k)
+    (pick-key 0 _ _ k refl ∙ pick-no _ _ (ap isLink k) ∙ pick-eq _ _ k))
 
 returns-4 : tie.Need-returns-4
 unfolding bodyOf sizeOf
@@ -43,8 +45,8 @@ returns-4 c =
     c .read-parameter .ensures
     ∙ sym
     (ap₂ (λ (n : ℕ) (r : Reading). whole n (c .before .before .before .before .args .rest .now) r)
-    (pick-key 0 _ _ k refl ∙ pick-key 1 _ _ k refl ∙ pick-key 2 _ _ k refl ∙ pick-eq _ _ k)
-    (pick-key 0 _ _ k refl ∙ pick-key 1 _ _ k refl ∙ pick-key 2 _ _ k refl ∙ pick-eq _ _ k))
+    (pick-key 0 _ _ k refl ∙ pick-no _ _ (ap isLink k) ∙ pick-key 2 _ _ k refl ∙ pick-eq _ _ k)
+    (pick-key 0 _ _ k refl ∙ pick-no _ _ (ap isLink k) ∙ pick-key 2 _ _ k refl ∙ pick-eq _ _ k))
 
 returns-5 : tie.Need-returns-5
 unfolding bodyOf sizeOf
@@ -53,20 +55,33 @@ returns-5 c =
     c .read-item .ensures
     ∙ sym
     (ap₂ (λ (n : ℕ) (r : Reading). whole n (c .before .before .before .before .args .rest .now) r)
-    (pick-key 0 _ _ k refl ∙ pick-key 1 _ _ k refl ∙ pick-key 2 _ _ k refl ∙ pick-key 3 _ _ k refl ∙ pick-eq _ _ k)
-    (pick-key 0 _ _ k refl ∙ pick-key 1 _ _ k refl ∙ pick-key 2 _ _ k refl ∙ pick-key 3 _ _ k refl ∙ pick-eq _ _ k))
+    (pick-key 0 _ _ k refl ∙ pick-no _ _ (ap isLink k) ∙ pick-key 2 _ _ k refl ∙ pick-key 3 _ _ k refl ∙ pick-eq _ _ k)
+    (pick-key 0 _ _ k refl ∙ pick-no _ _ (ap isLink k) ∙ pick-key 2 _ _ k refl ∙ pick-key 3 _ _ k refl ∙ pick-eq _ _ k))
 
 returns-6 : tie.Need-returns-6
 unfolding bodyOf sizeOf
 returns-6 c =
+    let k = c .before .match .keys6 in
+    c .read-link2 .ensures
+    ∙ sym
+    (ap₂ (λ (n : ℕ) (r : Reading). whole n (c .before .before .before .before .args .rest .now) r)
+    (pick-key 0 _ _ k refl ∙ pick-yes _ _ (ap isLink k))
+    (pick-key 0 _ _ k refl ∙ pick-yes _ _ (ap isLink k)))
+
+no-link : (kind : ℕ) → (kind ≡ 1 → ⊥) → (kind ≡ 5 → ⊥) → isLink kind ≡ false
+no-link kind a b = rw (ne-eqb kind 1 a, ne-eqb kind 5 b)
+
+returns-7 : tie.Need-returns-7
+unfolding bodyOf sizeOf
+returns-7 c =
     let n = c .before .match .rest in
     c .read-tolerance .ensures
     ∙ sym
     (ap₂ (λ (m : ℕ) (r : Reading). whole m (c .before .before .before .before .args .rest .now) r)
-    (pick-ne _ _ (n .0 .0 .0 .0 .1) ∙ pick-ne _ _ (n .0 .0 .0 .1) ∙ pick-ne _ _ (n .0 .0 .1) ∙ pick-ne _ _ (n .0 .1) ∙ pick-ne _ _ (n .1))
-    (pick-ne _ _ (n .0 .0 .0 .0 .1) ∙ pick-ne _ _ (n .0 .0 .0 .1) ∙ pick-ne _ _ (n .0 .0 .1) ∙ pick-ne _ _ (n .0 .1) ∙ pick-ne _ _ (n .1)))
+    (pick-ne _ _ (n .0 .0 .0 .0 .0 .1) ∙ pick-no _ _ (no-link _ (n .0 .0 .0 .0 .1) (n .1)) ∙ pick-ne _ _ (n .0 .0 .0 .1) ∙ pick-ne _ _ (n .0 .0 .1) ∙ pick-ne _ _ (n .0 .1))
+    (pick-ne _ _ (n .0 .0 .0 .0 .0 .1) ∙ pick-no _ _ (no-link _ (n .0 .0 .0 .0 .1) (n .1)) ∙ pick-ne _ _ (n .0 .0 .0 .1) ∙ pick-ne _ _ (n .0 .0 .1) ∙ pick-ne _ _ (n .0 .1)))
 
 pub read-body-spec : {M : Type 1} → statement M
 read-body-spec =
-    tie.close (tie.spec (λ c κs. search needs) (λ c κs. search needs) (λ c κs. search needs) (λ c κs. search needs) (λ c κs. search needs) returns
-    returns-2 returns-3 returns-4 returns-5 returns-6)
+    tie.close (tie.spec (λ c κs. search needs) (λ c κs. search needs) (λ c κs. search needs) (λ c κs. search needs) (λ c κs. search needs) (λ c κs. search needs) returns
+    returns-2 returns-3 returns-4 returns-5 returns-6 returns-7)
