@@ -37,6 +37,7 @@ identified c identity = record {
   «com_mod» = c .«com_mod»;
   «com_time» = c .«com_time»;
   profile = c .profile;
+  «alarm_mode» = c .«alarm_mode»;
 }
 
 module _ (s : List ℕ) (lay : Layout) (st : LinkState) (c : Command) (i : ℕ) where

@@ -7,6 +7,7 @@ use Rattle.octets.specs.Pick.{pick}
 use Rattle.link.specs.Steps.{connected}
 use Rattle.link.specs.declared.state.LinkState.{LinkState}
 use Rattle.sheet.specs.declared.walk.Layout.{Layout}
+use Rattle.machine.specs.Codes.{isFull}
 use Rattle.machine.specs.declared.words.Command.{Command}
 use Rattle.machine.specs.declared.words.Effect.the-variants.{Connects}
 use Rattle.machine.specs.declared.words.Field.the-variants.{Version, ComMod, ComTime, Profile}
@@ -29,12 +30,16 @@ comModFits m = eqb (m % 2) 0 && eqb (m / 16) 0 && leb (transfer m) 1 && (eqb (tr
 unfoldable pub comTimeFits : ℕ → ℕ → Bool
 comTimeFits m time = leb 1 time && (eqb (transfer m) 0 || leb 2 time)
 
+-- "7 profile of the sheet"; request 7: "one not there isn't checked"
+unfoldable pub profileFits : Layout → ℕ → Bool
+profileFits lay profile = not (isFull (lay .form)) || eqb profile (lay .profile)
+
 -- "4 version of the sheet; 5 com_mod; 6 com_time ..; 7 profile of the sheet": "com_time and dual set; link 3 if bit 1 of com_mod, else 2"
 unfoldable pub connectOf : Layout → LinkState → Command → Judgement
 connectOf lay st c =
     pick (not (eqb (c .version) (lay .version))) (Refused 9 Version)
     (pick (not (comModFits (c .«com_mod»))) (Refused 9 ComMod)
     (pick (not (comTimeFits (c .«com_mod») (c .«com_time»))) (Refused 9 ComTime)
-    (pick (not (eqb (c .profile) (lay .profile))) (Refused 9 Profile)
+    (pick (not (profileFits lay (c .profile))) (Refused 9 Profile)
     (Accepted Connects
     (connected st (pick (eqb (synchronous (c .«com_mod»)) 1) 3 2) (transfer (c .«com_mod»)) (c .«com_time»))))))

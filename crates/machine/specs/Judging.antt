@@ -18,7 +18,7 @@ use Rattle.machine.specs.Spans.{grantedOf, spanOf}
 use Rattle.machine.specs.declared.words.Carrier.the-variants.{Parameter as ByParameter, Memory as ByMemory}
 use Rattle.machine.specs.declared.words.Command.{Command}
 use Rattle.machine.specs.declared.words.Effect.the-variants.{Quiet, Identifies, Alarms}
-use Rattle.machine.specs.declared.words.Field.the-variants.{Whole, Number, Size, Item, Count, Mode}
+use Rattle.machine.specs.declared.words.Field.the-variants.{Whole, Number, Size, Item, Count, Mode, AlarmMode}
 use Rattle.machine.specs.declared.words.Judgement.{Judgement}
 use Rattle.machine.specs.declared.words.Judgement.the-variants.{Refused, Accepted}
 
@@ -47,16 +47,16 @@ itemData lay st c (SoughtItem.Found i) =
 unfoldable pub itemOf : List ℕ → Layout → LinkState → Command → Judgement
 itemOf s lay st c = itemData lay st c (soughtItem (itemsOf s (lay .regions) (lay .parameters) (lay .items)) (c .item))
 
--- 05 ALM_RD: "L at least 16; 4-5 zero"; the latches as they were
+-- 05 ALM_RD: "L at least 16; 4-5 zero", which is the mode; the latches as they were
 unfoldable pub alarmsOf : Layout → LinkState → Command → Judgement
 alarmsOf lay st c =
     pick (ltb (lay .l) 16) (Refused 9 Whole)
-    (pick (not (eqb (c .number) 0)) (Refused 9 Number)
+    (pick (not (eqb (c .«alarm_mode») 0)) (Refused 9 AlarmMode)
     (Accepted (Alarms (st .latches .command) (st .latches .communication)) st))
 
 -- 06 ALM_CLR: "4-5 zero"; "both latches 0"
 unfoldable pub clearOf : LinkState → Command → Judgement
-clearOf st c = pick (not (eqb (c .number) 0)) (Refused 9 Number) (Accepted Quiet (cleared st))
+clearOf st c = pick (not (eqb (c .«alarm_mode») 0)) (Refused 9 AlarmMode) (Accepted Quiet (cleared st))
 
 -- octet 5 of the memory commands: by 002, 4.3.3.13 and 5.2.3, the low half is the type of memory, which must be 1, and the high half is 1, 2
 -- or 3 for elements of 1, 2 or 4 octets; 0 where it is neither
@@ -91,6 +91,6 @@ dataOf s lay st c =
 -- "2. Unknown code: alarm 8. 3. Code not allowed in this link: alarm 12. 4. Data: alarm 9. 5. Rights over the whole span: alarm 10."
 unfoldable pub judgeOf : List ℕ → Layout → LinkState → Command → Judgement
 judgeOf s lay st c =
-    pick (not (isKnown (c .code))) (Refused 8 Whole)
+    pick (not (isKnown (lay .form) (c .code))) (Refused 8 Whole)
     (pick (not (isAllowed (st .link) (c .code))) (Refused 12 Whole)
     (dataOf s lay st c))

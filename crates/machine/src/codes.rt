@@ -1,6 +1,7 @@
 // The command codes, and which link allows which.
+use sheet::walk::Form;
 ghost use mathlib.Core.Path.{_≡_};
-ghost use Rattle.machine.specs.Codes.{isKnown, isAllowed};
+ghost use Rattle.machine.specs.Codes.{isFull, isKnown, isAllowed};
 
 pub const NOP: u8 = 0;
 
@@ -32,9 +33,19 @@ pub const NO_RIGHT: u8 = 10;
 
 pub const WRONG_PHASE: u8 = 12;
 
-// Whether a code is one of the eleven.
-pub fn is_known(code: u8) -> bool
-    ensures { λ r. ⌜ r ≡ isKnown code ⌝ }
+// Whether a type has the memory commands, and a profile in CONNECT.
+pub fn is_full(form: Form) -> bool
+    ensures { λ r. ⌜ r ≡ isFull form ⌝ }
+{
+    match form {
+        Form::Enhanced => true,
+        Form::Short => false,
+    }
+}
+
+// Whether a code is one of a type's: eleven, or nine.
+pub fn is_known(form: Form, code: u8) -> bool
+    ensures { λ r. ⌜ r ≡ isKnown form code ⌝ }
 {
     (code == NOP)
         | (code == PRM_RD)
@@ -45,8 +56,7 @@ pub fn is_known(code: u8) -> bool
         | (code == SYNC_SET)
         | (code == CONNECT)
         | (code == DISCONNECT)
-        | (code == MEM_RD)
-        | (code == MEM_WR)
+        | (is_full(form) & ((code == MEM_RD) | (code == MEM_WR)))
 }
 
 // Whether a link allows a known code.

@@ -7,7 +7,7 @@ use crate::words::Judgement;
 use link::state::LinkState;
 use sheet::walk::Layout;
 ghost use mathlib.Core.Path.{_≡_};
-ghost use Rattle.machine.specs.Connecting.{comModFits, comTimeFits, connectOf};
+ghost use Rattle.machine.specs.Connecting.{comModFits, comTimeFits, profileFits, connectOf};
 
 fn com_mod_fits(m: u8) -> bool
     ensures { λ r. ⌜ r ≡ comModFits m ⌝ }
@@ -19,6 +19,14 @@ fn com_time_fits(m: u8, time: u8) -> bool
     ensures { λ r. ⌜ r ≡ comTimeFits m time ⌝ }
 {
     (1 <= time) & ((m / 4 % 4 == 0) | (2 <= time))
+}
+
+// A type without a profile has none that is wrong.
+fn profile_fits(layout: Layout, profile: u8) -> bool
+    ensures { λ r. ⌜ r ≡ profileFits layout profile ⌝ }
+{
+    let form = layout.form;
+    !crate::codes::is_full(form) | (profile == layout.profile)
 }
 
 pub fn connect(layout: Layout, st: LinkState, c: Command) -> Judgement
@@ -33,7 +41,7 @@ pub fn connect(layout: Layout, st: LinkState, c: Command) -> Judgement
     if !com_time_fits(c.com_mod, c.com_time) {
         return Judgement::Refused(OUT_OF_RANGE, Field::ComTime);
     }
-    if c.profile != layout.profile {
+    if !profile_fits(layout, c.profile) {
         return Judgement::Refused(OUT_OF_RANGE, Field::Profile);
     }
     let transfer = c.com_mod / 4 % 4;

@@ -90,8 +90,8 @@ pub fn alarms(layout: Layout, st: LinkState, c: Command) -> Judgement
     if layout.l < 16 {
         return Judgement::Refused(OUT_OF_RANGE, Field::Whole);
     }
-    if c.number != 0 {
-        return Judgement::Refused(OUT_OF_RANGE, Field::Number);
+    if c.alarm_mode != 0 {
+        return Judgement::Refused(OUT_OF_RANGE, Field::AlarmMode);
     }
     Judgement::Accepted(
         Effect::Alarms(st.latches.command, st.latches.communication),
@@ -103,8 +103,8 @@ pub fn alarms(layout: Layout, st: LinkState, c: Command) -> Judgement
 pub fn clear(st: LinkState, c: Command) -> Judgement
     ensures { λ r. ⌜ r ≡ clearOf st c ⌝ }
 {
-    if c.number != 0 {
-        return Judgement::Refused(OUT_OF_RANGE, Field::Number);
+    if c.alarm_mode != 0 {
+        return Judgement::Refused(OUT_OF_RANGE, Field::AlarmMode);
     }
     Judgement::Accepted(Effect::Quiet, st.cleared())
 }
@@ -180,7 +180,8 @@ pub fn judge(sheet: &[u8], layout: Layout, st: LinkState, c: Command) -> Judgeme
     requires { ⌜ Counted (now sheet) (countsOf layout) ⌝ }
     ensures { λ r. ⌜ r ≡ judgeOf (now (sheet .entry)) layout st c ⌝ }
 {
-    if !crate::codes::is_known(c.code) {
+    let form = layout.form;
+    if !crate::codes::is_known(form, c.code) {
         return Judgement::Refused(OUT_OF_SUPPORT, Field::Whole);
     }
     if !crate::codes::is_allowed(st.link, c.code) {

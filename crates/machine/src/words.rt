@@ -1,7 +1,7 @@
 // A command by value, and what comes of it.
 use link::state::LinkState;
 
-// The fields of a command. Each command names the fields it has; `frame` knows at which octets they stand.
+// The fields of a command. Each command names the fields it has; `frame` knows at which octets they stand, and gives 0 for one that a type lacks.
 pub struct Command {
     pub code: u8,
     pub wdt: u8,
@@ -17,6 +17,7 @@ pub struct Command {
     pub com_mod: u8,
     pub com_time: u8,
     pub profile: u8,
+    pub alarm_mode: u16,
 }
 
 // Which command moves data: the parameter commands or the memory commands.
@@ -50,6 +51,7 @@ pub enum Field {
     ComMod,
     ComTime,
     Profile,
+    AlarmMode,
     Span(u8),
 }
 

@@ -33,34 +33,36 @@ returns-4 : tie.Need-returns-4
 unfolding connectOf
 returns-4 c =
     sym
-    (pick-same _ _ (c .before .before .before .before .before .before .before .if1 .left)
-    ∙ pick-held _ _ (c .before .before .before .before .before .before .com-mod-fits .ensures) (c .before .before .before .before .before .if2 .left)
-    ∙ pick-held _ _ (c .before .before .before .before .com-time-fits .ensures) (c .before .before .before .if3 .left)
-    ∙ pick-differ _ _ (c .if4 .taken))
+    (pick-same _ _ (c .before .before .before .before .before .before .if1 .left)
+    ∙ pick-held _ _ (c .before .before .before .before .before .com-mod-fits .ensures) (c .before .before .before .before .if2 .left)
+    ∙ pick-held _ _ (c .before .before .before .com-time-fits .ensures) (c .before .before .if3 .left)
+    ∙ pick-failed _ _ (c .before .profile-fits .ensures) (c .if4 .taken))
 
 returns-5 : tie.Need-returns-5
 unfolding connectOf
 returns-5 c =
+    let a = c .before .before .before .before .before .before .before .before .before .before .before .before .before .args in
     ap (Accepted Connects) (c .connected .ensures)
     ∙ sym
-    (pick-same _ _ (c .before .before .before .before .before .before .before .before .before .before .before .if1 .left)
-    ∙ pick-held _ _ (c .before .before .before .before .before .before .before .before .before .before .com-mod-fits .ensures) (c .before .before .before .before .before .before .before .before .before .if2 .left)
-    ∙ pick-held _ _ (c .before .before .before .before .before .before .before .before .com-time-fits .ensures) (c .before .before .before .before .before .before .before .if3 .left)
-    ∙ pick-same _ _ (c .before .before .before .before .if4 .left)
-    ∙ ap (λ (l : ℕ). Accepted Connects (connected (c .before .before .before .before .before .before .before .before .before .before .before .before .before .before .args .st) l (transfer (c .before .before .before .before .before .before .before .before .before .before .before .before .before .before .args .c .«com_mod»)) (c .before .before .before .before .before .before .before .before .before .before .before .before .before .before .args .c .«com_time»))) (pick-eq _ _ (c .before .if5 .taken)))
+    (pick-same _ _ (c .before .before .before .before .before .before .before .before .before .before .if1 .left)
+    ∙ pick-held _ _ (c .before .before .before .before .before .before .before .before .before .com-mod-fits .ensures) (c .before .before .before .before .before .before .before .before .if2 .left)
+    ∙ pick-held _ _ (c .before .before .before .before .before .before .before .com-time-fits .ensures) (c .before .before .before .before .before .before .if3 .left)
+    ∙ pick-held _ _ (c .before .before .before .before .before .profile-fits .ensures) (c .before .before .before .before .if4 .left)
+    ∙ ap (λ (l : ℕ). Accepted Connects (connected (a .st) l (transfer (a .c .«com_mod»)) (a .c .«com_time»))) (pick-eq _ _ (c .before .if5 .taken)))
 
 returns-6 : tie.Need-returns-6
 unfolding connectOf
 returns-6 c =
+    let a = c .before .before .before .before .before .before .before .before .before .before .before .before .before .args in
     ap (Accepted Connects) (c .connected2 .ensures)
     ∙ sym
-    (pick-same _ _ (c .before .before .before .before .before .before .before .before .before .before .before .if1 .left)
-    ∙ pick-held _ _ (c .before .before .before .before .before .before .before .before .before .before .com-mod-fits .ensures) (c .before .before .before .before .before .before .before .before .before .if2 .left)
-    ∙ pick-held _ _ (c .before .before .before .before .before .before .before .before .com-time-fits .ensures) (c .before .before .before .before .before .before .before .if3 .left)
-    ∙ pick-same _ _ (c .before .before .before .before .if4 .left)
-    ∙ ap (λ (l : ℕ). Accepted Connects (connected (c .before .before .before .before .before .before .before .before .before .before .before .before .before .before .args .st) l (transfer (c .before .before .before .before .before .before .before .before .before .before .before .before .before .before .args .c .«com_mod»)) (c .before .before .before .before .before .before .before .before .before .before .before .before .before .before .args .c .«com_time»))) (pick-ne _ _ (c .before .if5 .left)))
+    (pick-same _ _ (c .before .before .before .before .before .before .before .before .before .before .if1 .left)
+    ∙ pick-held _ _ (c .before .before .before .before .before .before .before .before .before .com-mod-fits .ensures) (c .before .before .before .before .before .before .before .before .if2 .left)
+    ∙ pick-held _ _ (c .before .before .before .before .before .before .before .com-time-fits .ensures) (c .before .before .before .before .before .before .if3 .left)
+    ∙ pick-held _ _ (c .before .before .before .before .before .profile-fits .ensures) (c .before .before .before .before .if4 .left)
+    ∙ ap (λ (l : ℕ). Accepted Connects (connected (a .st) l (transfer (a .c .«com_mod»)) (a .c .«com_time»))) (pick-ne _ _ (c .before .if5 .left)))
 
 pub connect-spec : {M : Type 1} → statement M
 connect-spec =
-    tie.close (tie.spec returns (λ c κs. search needs) returns-2 (λ c κs. search needs) returns-3 returns-4 (λ c κs. search needs) returns-5
-    (λ c κs. search needs) returns-6)
+    tie.close (tie.spec returns (λ c κs. search needs) returns-2 (λ c κs. search needs) returns-3 (λ c κs. search needs) returns-4 (λ c κs. search needs)
+    returns-5 (λ c κs. search needs) returns-6)
