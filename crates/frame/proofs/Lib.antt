@@ -1,4 +1,5 @@
--- The laws of the enhanced PDU: a proof above uses these, and no text of a definition here.
+-- The laws of the PDU of both types: a proof above uses these, and no text of a definition here.
+pub mod Numbers
 pub mod Named
 pub mod Rooms
 pub mod Kept

@@ -19,4 +19,25 @@ fieldsOf code wdt control four five six seven address = record {
   «com_mod» = five;
   «com_time» = six;
   profile = seven;
+  «alarm_mode» = le2 four five;
+}
+
+-- of the short type
+abbrev pub shortFieldsOf : ℕ → ℕ → ℕ → ℕ → ℕ → Command
+shortFieldsOf code wdt four five six = record {
+  code = code;
+  wdt = wdt;
+  identity = 0;
+  number = le2 four five;
+  size = six;
+  item = four;
+  offset = five;
+  count = six;
+  mode = 0;
+  address = 0;
+  version = four;
+  «com_mod» = five;
+  «com_time» = six;
+  profile = 0;
+  «alarm_mode» = four;
 }

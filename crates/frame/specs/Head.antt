@@ -1,10 +1,16 @@
--- The reply's first four octets. Document 01: "Reply: octet 0 the code again, octet 1 RWDT, octets 2 and 3 status, then body."
+-- The reply's head. Document 01: "Reply: octet 0 the code again, octet 1 RWDT, octets 2 and 3 status, then body"; request 7: "in the reply code, alarm, two
+-- octets of status, 11 of body, RWDT last".
 use Prim.Native.Nat.{ℕ, _+_, _*_, _/_, _%_}
 use mathlib.Core.Bool.{_&&_}
 use mathlib.Core.List.{List, [], _∷_}
 use lib.Dec.{eqb}
+use lib.ListN.{replicate}
+use Rattle.octets.specs.Parts.{putAt}
 use Rattle.octets.specs.Pick.{pick}
 use Rattle.link.specs.declared.state.LinkState.{LinkState}
+use Rattle.sheet.specs.declared.walk.Form.{Form}
+use Rattle.sheet.specs.declared.walk.Form.the-variants.{Enhanced, Short}
+use Rattle.frame.specs.Places.{wdtAt}
 
 -- "RWDT is 16 times the new RSN plus the command's MN if the link afterwards is 3, else 0"; RSN and MN are half octets
 unfoldable pub rwdtOf : ℕ → LinkState → ℕ
@@ -21,7 +27,14 @@ statusOf identity alarm next =
     pick (eqb (next .latches .command) 0 && eqb (next .latches .communication) 0) 0 1
     + missedBit next + 4 + 64 * (identity % 4) + 256 * (alarm % 16) + 4096 * (next .latches .communication % 16)
 
--- the four octets; the status is a number of two octets, low octet first
-unfoldable pub headOf : ℕ → ℕ → ℕ → ℕ → LinkState → List ℕ
-headOf code wdt identity alarm next =
+-- the first four octets; the status is a number of two octets, low octet first. Request 7: "The command alarm goes in octet 1", and not into the status
+unfoldable pub headOf : Form → ℕ → ℕ → ℕ → ℕ → LinkState → List ℕ
+headOf Enhanced code wdt identity alarm next =
     code ∷ rwdtOf wdt next ∷ statusOf identity alarm next % 256 ∷ statusOf identity alarm next / 256 ∷ []
+headOf Short code wdt identity alarm next = code ∷ alarm ∷ statusOf identity 0 next % 256 ∷ statusOf identity 0 next / 256 ∷ []
+
+-- a reply of l octets with its head, RWDT, and zeros for its body
+unfoldable pub begunOf : Form → ℕ → ℕ → ℕ → ℕ → ℕ → LinkState → List ℕ
+begunOf Enhanced l code wdt identity alarm next = putAt (replicate l 0) 0 (headOf Enhanced code wdt identity alarm next)
+begunOf Short l code wdt identity alarm next =
+    putAt (putAt (replicate l 0) 0 (headOf Short code wdt identity alarm next)) (wdtAt Short) (rwdtOf wdt next ∷ [])

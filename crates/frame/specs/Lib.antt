@@ -1,4 +1,5 @@
--- Definitions of the enhanced PDU (002, 4.3.3; document 01, "One exchange"), in reading order.
+-- Definitions of the PDU of both types (002, 4.3.1 and 4.3.3; document 01, "One exchange"; request 7), in reading order.
+pub mod Places
 pub mod Fields
 pub mod Fielded
 pub mod Head

@@ -1,31 +1,12 @@
-// A command's fields out of its octets, and where they begin: the only place that knows where they stand.
+// A command's fields out of its octets.
 use machine::words::Command;
-use machine::words::Field;
+use sheet::walk::Form;
 ghost use mathlib.Core.Path.{_≡_};
-ghost use Rattle.frame.specs.Fields.{placeOf, commandOf};
-ghost use Rattle.frame.specs.Fielded.{fieldsOf};
+ghost use Rattle.sheet.specs.declared.walk.Form.the-variants.{Enhanced, Short};
+ghost use Rattle.frame.specs.Fields.{commandOf};
+ghost use Rattle.frame.specs.Fielded.{fieldsOf, shortFieldsOf};
 
-// The octet at which a field begins; of a span that lacks a right, the octets before the first that lacks it.
-pub fn place_of(field: Field) -> u8
-    ensures { λ r. ⌜ r ≡ placeOf field ⌝ }
-{
-    match field {
-        Field::Whole => 0,
-        Field::Number => 4,
-        Field::Size => 6,
-        Field::Item => 4,
-        Field::Count => 6,
-        Field::Mode => 5,
-        Field::Address => 8,
-        Field::Version => 4,
-        Field::ComMod => 5,
-        Field::ComTime => 6,
-        Field::Profile => 7,
-        Field::Span(before) => before,
-    }
-}
-
-// The fields by the octets that have them, and the address.
+// The enhanced type's fields by the octets that have them, and the address.
 fn fields(
     code: u8,
     wdt: u8,
@@ -38,11 +19,12 @@ fn fields(
 ) -> Command
     ensures { λ r. ⌜ r ≡ fieldsOf code wdt control four five six seven address ⌝ }
 {
+    let number = octets::le2(four, five);
     Command {
         code,
         wdt,
         identity: control / 64,
-        number: octets::le2(four, five),
+        number,
         size: six,
         item: four,
         offset: five,
@@ -53,12 +35,13 @@ fn fields(
         com_mod: five,
         com_time: six,
         profile: seven,
+        alarm_mode: number,
     }
 }
 
 // An octet past the command's end counts as 0, so that at L 8 none past 7 is looked at. Every command of a slave has eight, and one test serves them all.
-pub fn command_of(command: &[u8]) -> Command
-    ensures { λ r. ⌜ r ≡ commandOf (now (command .entry)) ⌝ }
+fn enhanced(command: &[u8]) -> Command
+    ensures { λ r. ⌜ r ≡ commandOf Enhanced (now (command .entry)) ⌝ }
 {
     let address = octets::le4_at(command, 8);
     if command.len() < 8 {
@@ -83,4 +66,49 @@ pub fn command_of(command: &[u8]) -> Command
         command[7],
         address,
     )
+}
+
+// The short type's fields by the octets that have them; those that it lacks are 0.
+fn short_fields(code: u8, wdt: u8, four: u8, five: u8, six: u8) -> Command
+    ensures { λ r. ⌜ r ≡ shortFieldsOf code wdt four five six ⌝ }
+{
+    Command {
+        code,
+        wdt,
+        identity: 0,
+        number: octets::le2(four, five),
+        size: six,
+        item: four,
+        offset: five,
+        count: six as u16,
+        mode: 0,
+        address: 0,
+        version: four,
+        com_mod: five,
+        com_time: six,
+        profile: 0,
+        alarm_mode: four as u16,
+    }
+}
+
+fn short(command: &[u8]) -> Command
+    ensures { λ r. ⌜ r ≡ commandOf Short (now (command .entry)) ⌝ }
+{
+    short_fields(
+        octets::octet(command, 0),
+        octets::octet(command, 15),
+        octets::octet(command, 4),
+        octets::octet(command, 5),
+        octets::octet(command, 6),
+    )
+}
+
+// The fields of a command of either type.
+pub fn command_of(form: Form, command: &[u8]) -> Command
+    ensures { λ r. ⌜ r ≡ commandOf form (now (command .entry)) ⌝ }
+{
+    match form {
+        Form::Enhanced => enhanced(command),
+        Form::Short => short(command),
+    }
 }

@@ -1,10 +1,14 @@
-// The reply's first four octets.
+// The reply's head.
 use link::state::LinkState;
+use sheet::walk::Form;
 ghost use mathlib.Core.Path.{_≡_};
-ghost use Prim.Native.Nat.{_≤_};
+ghost use mathlib.Core.List.{[], _∷_};
+ghost use Prim.Native.Nat.{_/_, _%_, _≤_};
 ghost use lib.ListN.{length, replicate};
 ghost use Rattle.octets.specs.Parts.{putAt};
-ghost use Rattle.frame.specs.Head.{rwdtOf, missedBit, statusOf, headOf};
+ghost use Rattle.frame.specs.Head.{rwdtOf, missedBit, statusOf, begunOf};
+ghost use Rattle.frame.specs.Places.{wdtAt, Sized};
+ghost use Rattle.sheet.specs.declared.walk.Form.the-variants.{Short};
 
 fn rwdt(wdt: u8, next: LinkState) -> u8
     ensures { λ r. ⌜ r ≡ rwdtOf wdt next ⌝ }
@@ -38,15 +42,36 @@ fn status(identity: u8, alarm: u8, next: LinkState) -> u16
     1 + missed + 4 + echo + high
 }
 
-// The head over a reply of zeros: no old octet stays.
-pub fn head(reply: &mut [u8], code: u8, wdt: u8, identity: u8, alarm: u8, next: LinkState)
+// Four octets over a reply of zeros: no old octet stays.
+fn four(reply: &mut [u8], code: u8, second: u8, word: u16)
     requires { ⌜ 4 ≤ length (now reply) ⌝ }
-    ensures { λ _. ⌜ now (reply .exit) ≡ putAt (replicate (length (now (reply .entry))) 0) 0 (headOf code wdt identity alarm next) ⌝ }
+    ensures { λ _. ⌜ now (reply .exit) ≡ putAt (replicate (length (now (reply .entry))) 0) 0 (code ∷ second ∷ word % 256 ∷ word / 256 ∷ []) ⌝ }
 {
     octets::zero(reply);
-    let word = status(identity, alarm, next);
     reply[0] = code;
-    reply[1] = rwdt(wdt, next);
+    reply[1] = second;
     reply[2] = (word % 256) as u8;
     reply[3] = (word / 256) as u8;
+}
+
+// RWDT as the short type's last octet.
+fn last(reply: &mut [u8], rwdt: u8)
+    requires { ⌜ length (now reply) ≡ 16 ⌝ }
+    ensures { λ _. ⌜ now (reply .exit) ≡ putAt (now (reply .entry)) (wdtAt Short) (rwdt ∷ []) ⌝ }
+{
+    reply[15] = rwdt;
+}
+
+// The head and RWDT over a reply of zeros.
+pub fn head(form: Form, reply: &mut [u8], code: u8, wdt: u8, identity: u8, alarm: u8, next: LinkState)
+    requires { ⌜ Sized form (length (now reply)) ⌝ }
+    ensures { λ _. ⌜ now (reply .exit) ≡ begunOf form (length (now (reply .entry))) code wdt identity alarm next ⌝ }
+{
+    match form {
+        Form::Enhanced => four(reply, code, rwdt(wdt, next), status(identity, alarm, next)),
+        Form::Short => {
+            four(reply, code, alarm, status(identity, 0, next));
+            last(reply, rwdt(wdt, next));
+        }
+    }
 }

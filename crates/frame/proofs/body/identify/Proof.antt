@@ -10,8 +10,7 @@ use Rattle.frame.proofs.body.identify.Tie as tie
 returns : tie.Need-returns
 returns c =
     let a = c .before .before .before .before .before .before .before .before .before .before .before .args in
-    c .before .before .enter .ensures ∙ ap (λ (x : List ℕ). putAt x 8 (part (a .sheet .now) (a .at) (a .n))) (c .before .before .before .before .before .before .echo-four .ensures)
+    c .before .before .enter .ensures ∙ ap (λ (x : List ℕ). putAt x (a .end) (part (a .sheet .now) (a .at) (a .n))) (c .before .before .before .before .before .before .echo-named .ensures)
 
 pub identify-spec : {M : Type 1} → statement M
-identify-spec =
-    tie.close (tie.spec (λ c κs. search needs) (λ c κs. search needs) (λ c. search needs) returns)
+identify-spec = tie.close (tie.spec (λ c κs. search needs) (λ c κs. search needs) (λ c. search needs) returns)

@@ -7,6 +7,7 @@ use lib.ListN.{length}
 use Rattle.octets.specs.Parts.{part, putAt}
 use Rattle.machine.specs.declared.words.Effect.{Effect}
 use Rattle.frame.specs.Body.{memoryAfter, Storing}
+use Rattle.frame.proofs.Numbers.{end-within}
 use Rattle.frame.proofs.body.store.Statement.{statement}
 use Rattle.frame.proofs.body.store.Tie as tie
 
@@ -14,7 +15,8 @@ enter-requires : tie.Need-enter-requires
 unfolding Storing
 enter-requires c κs =
     let a = c .before .before .before .before .before .before .before .args in
-    let f = subst (λ (x : Effect). Storing x (length (a .command .now)) (length (a .memory .now))) (c .before .before .before .effect .given .1) (c .before .before .before .before .before .before .before .pre) in
+    let f = subst (λ (x : Effect). Storing (a .form) x (length (a .command .now)) (length (a .memory .now))) (c .before .before .before .effect .given .1) (c .before .before .before .before .before .before .before .pre) in
+    let w = end-within (a .form) (length (a .command .now)) in
     (omega (arith, f .0, c .data-from .ensures), f .1)
 
 returns : tie.Need-returns
@@ -47,5 +49,5 @@ returns-6 c = rw (c .enum-told5 .given .1)
 
 pub store-spec : {M : Type 1} → statement M
 store-spec =
-    tie.close (tie.spec (λ c. search needs) (λ c. search needs) (λ c. search needs) (λ c. search needs) (λ c κs. search needs) (λ c. search needs)
-    enter-requires (λ c. search needs) (λ c. search needs) (λ c. search needs) returns returns-2 (λ c. search needs) returns-3 returns-4 returns-5 returns-6)
+    tie.close (tie.spec (λ c. search needs) (λ c. search needs) (λ c. search needs) (λ c. search needs) (λ c κs. search needs) (λ c. search needs) enter-requires (λ c. search needs) (λ c. search needs) (λ c. search needs) 
+    returns returns-2 (λ c. search needs) returns-3 returns-4 returns-5 returns-6)

@@ -1,31 +1,16 @@
--- `frame::fields::command_of` meets its contract, field by field.
-use mathlib.Core.Path.{ap, _∙_}
-use Prim.Native.Nat.{ℕ}
+-- `frame::fields::command_of` meets its contract, type by type.
+use mathlib.Core.Path.{sym, ap, _∙_}
 use borrow.Author.Needs.{needs}
-use lib.ListN.{getD}
-use Rattle.frame.specs.Fielded.{fieldsOf}
-use Rattle.frame.specs.Fields.{placeOf, commandOf}
+use Rattle.sheet.specs.declared.walk.Form.{Form}
+use Rattle.frame.specs.Fields.{commandOf}
 use Rattle.frame.proofs.fields.command_of.Statement.{statement}
 use Rattle.frame.proofs.fields.command_of.Tie as tie
 
 returns : tie.Need-returns
-unfolding commandOf placeOf
-returns c =
-    c .fields .ensures
-    ∙ (λ i. fieldsOf (c .before .before .before .before .before .before .before .octet .ensures i) (c .before .before .before .before .before .before .octet2 .ensures i)
-    (c .before .before .before .before .before .octet3 .ensures i) (c .before .before .before .before .octet4 .ensures i) (c .before .before .before .octet5 .ensures i)
-    (c .before .before .octet6 .ensures i) (c .before .octet7 .ensures i) (c .before .before .before .before .before .before .before .before .before .le4-at .ensures i))
+returns c = c .enhanced .ensures ∙ sym (ap (λ (x : Form). commandOf x (c .before .before .before .before .args .command .now)) (c .before .enum-told .given .1))
 
 returns-2 : tie.Need-returns-2
-unfolding commandOf placeOf
-returns-2 c =
-    let s = c .before .before .before .before .before .before .before .before .before .before .before .args .command .now in
-    c .fields2 .ensures
-    ∙ ap (λ (address : ℕ). fieldsOf (getD s 0 0) (getD s 1 0) (getD s 2 0) (getD s 4 0) (getD s 5 0) (getD s 6 0) (getD s 7 0) address)
-    (c .before .before .before .before .before .before .before .before .before .le4-at .ensures)
+returns-2 c = c .short .ensures ∙ sym (ap (λ (x : Form). commandOf x (c .before .before .before .before .args .command .now)) (c .before .enum-told2 .given .1))
 
 pub command-of-spec : {M : Type 1} → statement M
-command-of-spec =
-    tie.close (tie.spec (λ c κs. search needs) (λ c κs. search needs) (λ c κs. search needs) (λ c κs. search needs) (λ c κs. search needs)
-    (λ c κs. search needs) (λ c κs. search needs) (λ c κs. search needs) (λ c κs. search needs) returns (λ c. search needs) (λ c. search needs)
-    (λ c. search needs) (λ c. search needs) (λ c. search needs) (λ c. search needs) (λ c. search needs) (λ c κs. search needs) returns-2)
+command-of-spec = tie.close (tie.spec (λ c. search needs) (λ c κs. search needs) (λ c. search needs) (λ c κs. search needs) returns returns-2)

@@ -1,9 +1,9 @@
--- `frame::fields::place_of` meets its contract, field by field.
+-- `frame::places::place_of` meets its contract, field by field.
 use mathlib.Core.Path.{sym, ap}
 use borrow.Author.Needs.{needs}
-use Rattle.frame.specs.Fields.{placeOf}
-use Rattle.frame.proofs.fields.place_of.Statement.{statement}
-use Rattle.frame.proofs.fields.place_of.Tie as tie
+use Rattle.frame.specs.Places.{placeOf}
+use Rattle.frame.proofs.places.place_of.Statement.{statement}
+use Rattle.frame.proofs.places.place_of.Tie as tie
 
 returns : tie.Need-returns
 unfolding placeOf
@@ -51,10 +51,14 @@ returns-11 c = sym (ap placeOf (c .enum-told11 .given .1))
 
 returns-12 : tie.Need-returns-12
 unfolding placeOf
-returns-12 c = sym (ap placeOf (c .before .field .given .1))
+returns-12 c = sym (ap placeOf (c .enum-told12 .given .1))
+
+returns-13 : tie.Need-returns-13
+unfolding placeOf
+returns-13 c = sym (ap placeOf (c .before .field .given .1))
 
 pub place-of-spec : {M : Type 1} → statement M
 place-of-spec =
-    tie.close (tie.spec (λ c. search needs) (λ c. search needs) (λ c. search needs) (λ c. search needs) (λ c. search needs) (λ c. search needs)
+    tie.close (tie.spec (λ c. search needs) (λ c. search needs) (λ c. search needs) (λ c. search needs) (λ c. search needs) (λ c. search needs) (λ c. search needs)
     (λ c. search needs) (λ c. search needs) (λ c. search needs) (λ c. search needs) (λ c. search needs) (λ c. search needs)
-    returns returns-2 returns-3 returns-4 returns-5 returns-6 returns-7 returns-8 returns-9 returns-10 returns-11 returns-12)
+    returns returns-2 returns-3 returns-4 returns-5 returns-6 returns-7 returns-8 returns-9 returns-10 returns-11 returns-12 returns-13)
