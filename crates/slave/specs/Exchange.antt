@@ -7,13 +7,15 @@ use lib.Dec.{eqb}
 use lib.ListN.{length}
 use Rattle.octets.specs.Pick.{pick}
 use Rattle.frame.specs.Body.{replyOf, memoryAfter}
-use Rattle.frame.specs.Fields.{placeOf, commandOf}
+use Rattle.frame.specs.Fields.{commandOf}
+use Rattle.frame.specs.Places.{placeOf}
 use Rattle.link.specs.Stored.{octetsOf, stateOf}
 use Rattle.link.specs.declared.state.LinkState.{LinkState}
 use Rattle.link.specs.declared.stored.Stored.the-variants.{State}
 use Rattle.machine.specs.Outcomes.{outcomeOf}
 use Rattle.machine.specs.declared.words.Outcome.{Outcome}
 use Rattle.sheet.specs.Walk.{verdictOf}
+use Rattle.sheet.specs.declared.walk.Form.{Form}
 use Rattle.sheet.specs.declared.walk.Layout.{Layout}
 use Rattle.sheet.specs.declared.walk.Verdict.the-variants.{Valid}
 use Rattle.slave.specs.Answers.{told, onSheet, onState}
@@ -39,13 +41,13 @@ refusalOf lay st memory command reply =
     0)))
 
 -- what is left of an outcome: the place of what was wrong, the next state's record, the memory and the whole reply
-abbrev pub leftOf : List ℕ → List ℕ → List ℕ → Outcome → Left
-leftOf sheet memory command o =
-    left (told 0 (placeOf (o .field))) (octetsOf (o .next)) (memoryAfter (o .effect) command memory) (replyOf sheet memory command o)
+abbrev pub leftOf : Form → List ℕ → List ℕ → List ℕ → Outcome → Left
+leftOf form sheet memory command o =
+    left (told 0 (placeOf (o .field))) (octetsOf (o .next)) (memoryAfter form (o .effect) command memory) (replyOf form sheet memory command o)
 
 -- an exchange that nothing refuses
 unfoldable pub exchanged : List ℕ → Layout → LinkState → List ℕ → List ℕ → Left
-exchanged sheet lay st memory command = leftOf sheet memory command (outcomeOf sheet lay st (commandOf command))
+exchanged sheet lay st memory command = leftOf (lay .form) sheet memory command (outcomeOf sheet lay st (commandOf (lay .form) command))
 
 unfoldable pub exchangeOf : List ℕ → List ℕ → List ℕ → List ℕ → List ℕ → Left
 exchangeOf sheet state memory command reply =

@@ -9,7 +9,8 @@ ghost use mathlib.Core.Path.{_≡_};
 ghost use Prim.Native.Nat.{_≤_, _/_, _%_};
 ghost use lib.ListN.{length};
 ghost use Rattle.frame.specs.Body.{replyOf};
-ghost use Rattle.frame.specs.Fields.{placeOf, commandOf};
+ghost use Rattle.frame.specs.Fields.{commandOf};
+ghost use Rattle.frame.specs.Places.{placeOf};
 ghost use Rattle.machine.specs.Outcomes.{outcomeOf};
 ghost use Rattle.slave.specs.Exchange.{left, refusalOf, exchanged, exchangeOf, Lent, Ready};
 ghost use Rattle.slave.specs.Wanted.{stepped, performed, came, cameOf};
@@ -49,16 +50,17 @@ fn build(
     reply: &mut [u8],
 ) -> Built
     requires { ⌜ Lent (now sheet) (now memory) (now command) (now reply) layout ⌝ }
-    ensures { λ r. ⌜ (r .outcome ≡ outcomeOf (now (sheet .entry)) layout st (commandOf (now (command .entry)))) × (r .place ≡ placeOf (r .outcome .field)) × (now (reply .exit) ≡ replyOf (now (sheet .entry)) (now (memory .entry)) (now (command .entry)) (outcomeOf (now (sheet .entry)) layout st (commandOf (now (command .entry))))) ⌝ }
+    ensures { λ r. ⌜ (r .outcome ≡ outcomeOf (now (sheet .entry)) layout st (commandOf (layout .form) (now (command .entry)))) × (r .place ≡ placeOf (r .outcome .field)) × (now (reply .exit) ≡ replyOf (layout .form) (now (sheet .entry)) (now (memory .entry)) (now (command .entry)) (outcomeOf (now (sheet .entry)) layout st (commandOf (layout .form) (now (command .entry))))) ⌝ }
 {
-    let c = frame::fields::command_of(command);
+    let form = layout.form;
+    let c = frame::fields::command_of(form, command);
     let outcome = machine::outcome::outcome(sheet, layout, st, c);
     let field = outcome.field;
-    let place = frame::fields::place_of(field);
+    let place = frame::places::place_of(field);
     let effect = outcome.effect;
     let next = outcome.next;
-    frame::head::head(reply, c.code, c.wdt, c.identity, outcome.alarm, next);
-    frame::body::fill_body(effect, sheet, memory, command, reply);
+    frame::head::head(form, reply, c.code, c.wdt, c.identity, outcome.alarm, next);
+    frame::body::fill_body(form, effect, sheet, memory, command, reply);
     Built { place, outcome }
 }
 
@@ -87,7 +89,8 @@ pub fn perform(
     let outcome = built.outcome;
     let effect = outcome.effect;
     let next = outcome.next;
-    frame::body::store(effect, command, memory);
+    let form = layout.form;
+    frame::body::store(form, effect, command, memory);
     link::stored::write(state, next);
     told
 }

@@ -1,8 +1,9 @@
 -- `frame::head::last` meets its contract: one store.
-use Prim.Native.Nat.{ℕ}
-use mathlib.Core.List.{[], _∷_}
+use mathlib.Core.List.{[], _∷_, append-assoc}
+use mathlib.Core.Path.{_∙_}
 use native.Mathlib.Omega.{arith}
 use borrow.Author.Needs.{needs}
+use lib.ListN.{take, drop}
 use lib.Seq.{sets-eq}
 use Rattle.octets.specs.Parts.{putAt}
 use Rattle.frame.specs.Places.{wdtAt}
@@ -11,7 +12,9 @@ use Rattle.frame.proofs.head.last.Tie as tie
 
 returns : tie.Need-returns
 unfolding putAt wdtAt
-returns c = sets-eq (c .args .rwdt ∷ []) (c .args .reply .now) 15 (omega arith)
+returns c =
+    let a = c .args in
+    sets-eq (a .rwdt ∷ []) (a .reply .now) 15 (let p = c .pre in omega arith) ∙ append-assoc (take 15 (a .reply .now)) (a .rwdt ∷ []) (drop 16 (a .reply .now))
 
 pub last-spec : {M : Type 1} → statement M
 last-spec = tie.close (tie.spec (λ c. search needs) (λ c. search needs) returns)

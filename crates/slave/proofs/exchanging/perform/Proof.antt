@@ -8,7 +8,8 @@ use borrow.Author.Needs.{needs}
 use lib.ListN.{length}
 use Rattle.octets.proofs.Pick.{pick-eq, pick-ne}
 use Rattle.frame.specs.Body.{memoryAfter}
-use Rattle.frame.specs.Fields.{placeOf, commandOf}
+use Rattle.frame.specs.Fields.{commandOf}
+use Rattle.frame.specs.Places.{placeOf}
 use Rattle.frame.proofs.Rooms.{fits-stored}
 use Rattle.link.specs.Stored.{octetsOf}
 use Rattle.link.proofs.Back.{written, read-valid}
@@ -54,8 +55,8 @@ store-requires c κs =
     let p = c .before .before .before .before .before .before .before .before .before .before .before .before .before .before .before .before .before .before .pre .0 in
     let o = c .before .before .before .before .before .before .before .before .before .build .result .outcome in
     let f = lent-fits (a .sheet .now) (a .memory .now) (a .command .now) (a .reply .now) (a .layout) (a .st) (ready-lent _ _ _ _ _ _ _ p)
-    (commandOf (a .command .now)) o (a .command .now) (c .before .before .before .before .before .before .before .before .before .build .ensures .0) (p .asked ∙ sym (p .lent)) in
-    fits-stored (length (a .command .now)) (length (a .memory .now)) (length (a .sheet .now)) (o .effect) (f .1)
+    (commandOf (a .layout .form) (a .command .now)) o (a .command .now) (c .before .before .before .before .before .before .before .before .before .build .ensures .0) (p .asked ∙ sym (p .lent)) in
+    fits-stored (a .layout .form) (length (a .command .now)) (length (a .memory .now)) (length (a .sheet .now)) (o .effect) (f .1)
 
 returns-2 : tie.Need-returns-2
 unfolding steppedOf exchanged
@@ -70,7 +71,7 @@ returns-2 c =
     let e = found ∙ ap (λ (x : List ℕ). differsAt x (a .wanted .now)) (b .2) in
     let at = at-told d (c .before .before .before .before .before .before .before .before .before .before .before .before .before .before .before .before .build .result .place) (omega arith) in
     let state = c .before .before .write .ensures ∙ written (a .state .now) (o .next) (read-valid _ _ _ _ (c .before .before .before .before .before .before .before .before .before .before .before .before .before .before .before .before .before .before .before .before .before .before .before .before .before .pre .0 .held) .0) ∙ ap (λ (x : Outcome). octetsOf (x .next)) (b .0) in
-    let memory = c .before .before .before .before .before .before .store .ensures ∙ ap (λ (x : Outcome). memoryAfter (x .effect) (a .command .now) (a .memory .now)) (b .0) in
+    let memory = c .before .before .before .before .before .before .store .ensures ∙ ap (λ (x : Outcome). memoryAfter (a .layout .form) (x .effect) (a .command .now) (a .memory .now)) (b .0) in
     let step = (λ i. stepped ((at ∙ e) i) (state i) (memory i)) ∙ sym (pick-eq _ _ (sym e ∙ all)) in
     let place = place-told d (c .before .before .before .before .before .before .before .before .before .before .before .before .before .before .before .before .build .result .place) (omega arith) ∙ b .1 ∙ ap (λ (x : Outcome). placeOf (x .field)) (b .0) in
     λ i. came (place i) (performed (step i) (b .2 i))
