@@ -8,9 +8,9 @@ use Rattle.sheet.specs.declared.walk.Verdict.the-variants.{Valid, Faulty}
 use Rattle.slave.specs.Calls.{After}
 use Rattle.slave.specs.Exchange.{Left}
 
--- the release of the archive: 1 had a state record of ten octets
+-- the release of the archive: 1 had a state record of ten octets, 2 no short type
 abbrev pub release : ℕ
-release = 2
+release = 3
 
 abbrev pub packed : Answer → ℕ
 packed a = a .number + 4294967296 * a .place
