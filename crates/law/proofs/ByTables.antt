@@ -22,6 +22,7 @@ use Rattle.law.specs.Faults.{FirstFault}
 use Rattle.law.specs.Calls.{Result, result, sheetTold, lengths, reset, enable, exchange, turn}
 use Rattle.law.specs.Trace.{Form, HasForm, replay}
 use Rattle.law.specs.ByTables.{hostHas, ByLaw, OneReading, ByTables}
+use Rattle.law.proofs.Links.{good-five}
 use Rattle.law.proofs.Calls.{leaves, leavesState, exchange-good, reset-good, enable-good, turn-good}
 use Rattle.law.proofs.Complete.{complete}
 use Rattle.law.proofs.Numbered.{fault-is}
@@ -128,11 +129,11 @@ Replays s m trace h x = (form : Form) × HasForm (h .l) trace form × (x ≡ rep
 
 replays-good : (sheet s m trace : List ℕ) (h : Sheet) → WellFormed h → sheet ≡ sheetOctets h → Replays s m trace h (leavesReplay (replayOf sheet s m trace))
 replays-good sheet s m trace h w e =
-    let f = form-exists (h .l) (w .l) trace in
+    let f = form-exists (h .l) (good-five (h .pdu) (h .l) (w .l)) trace in
     (f .0, f .1, ap (λ (x : List ℕ). leavesReplay (replayOf x s m trace)) e ∙ replay-good h w s m trace (f .0) (f .1))
 
 replays-only : (s m trace : List ℕ) (h : Sheet) → WellFormed h → (x y : Result) → Replays s m trace h x → Replays s m trace h y → x ≡ y
-replays-only s m trace h w x y p q = p .2 ∙ ap (replay h s m trace) (one-form (h .l) (w .l) trace (p .0) (q .0) (p .1) (q .1)) ∙ sym (q .2)
+replays-only s m trace h w x y p q = p .2 ∙ ap (replay h s m trace) (one-form (h .l) (good-five (h .pdu) (h .l) (w .l)) trace (p .0) (q .0) (p .1) (q .1)) ∙ sym (q .2)
 
 pub by-tables : ByTables
 by-tables = record {

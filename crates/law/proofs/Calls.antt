@@ -1,7 +1,7 @@
 -- Reset, enable and exchange on the writing of a well-formed sheet.
 use mathlib.Core.Bool.{Bool, true, false, not}
 use mathlib.Core.Logic.{_⊎_, inl, inr, ⊎-elim}
-use mathlib.Core.Path.{_≡_, refl, sym, ap, subst₂, _∙_}
+use mathlib.Core.Path.{_≡_, refl, sym, ap, subst, subst₂, _∙_}
 use mathlib.Core.List.{List, [], _∷_}
 use Prim.Native.Nat.{ℕ, zero, suc, _≤_}
 use native.Mathlib.Omega.{arith}
@@ -13,7 +13,8 @@ use Rattle.octets.proofs.Cases.{decided, eq-or-ne}
 use Rattle.octets.proofs.Pick.{pick-differ, pick-same, pick-eq, pick-ne}
 use Rattle.frame.specs.Body.{Fitting}
 use Rattle.frame.specs.Fields.{commandOf}
-use Rattle.law.proofs.Layouts.{layoutFor}
+use Rattle.frame.specs.Places.{Sized}
+use Rattle.law.proofs.Layouts.{formFor, layoutFor}
 use Rattle.law.specs.Words.{when, piece, laid, overFrom, over}
 use Rattle.law.specs.Sheet.{Sheet, WellFormed, sheetOctets, room, allows}
 use Rattle.law.specs.State.{link, validState, validOld}
@@ -37,6 +38,7 @@ use Rattle.law.proofs.Laid.{when-yes, when-no}
 use Rattle.machine.proofs.Nexts.{outcome-valid}
 use Rattle.law.proofs.Clauses.{state-yes, state-no, old-true, old-yes, old-no, turned}
 use Rattle.law.proofs.Replies.{reply-same, fate-small}
+use Rattle.law.proofs.Rows.{pdu-sized}
 use Rattle.law.proofs.Worlds.{world-of}
 use Rattle.law.proofs.Fates.{outcome-same}
 
@@ -57,12 +59,12 @@ pub done-same : (h : Sheet) → WellFormed h → (st : LinkState) → Facts (h .
 unfolding exchanged
 done-same h w st f m c whole asked on =
     let world = world-of h w m whole in
-    let o = outcomeOf (sheetOctets h) (layoutFor h) st (commandOf c) in
-    let same = outcome-same h (sheetOctets h) st m c f on world asked in
-    let v = outcome-valid (sheetOctets h) (layoutFor h) st (commandOf c) (h .l) f (some (st .link) on) (omega (arith, world .few)) in
-    let fits = subst₂ (λ (x y : ℕ). Fitting (o .effect) x y (length (sheetOctets h))) (sym asked) (sym whole)
-    (outcome-fits (sheetOctets h) (layoutFor h) (valid-sheet (sheetOctets h) (layoutFor h) (complete h w)) st (commandOf c)) in
-    let r = reply-same h (sheetOctets h) st m c o (fateOf h (octetsOf st) m c) same (fate-small h (octetsOf st) m c) v asked (world .long) fits in
+    let o = outcomeOf (sheetOctets h) (layoutFor h) st (commandOf (formFor (h .pdu)) c) in
+    let same = outcome-same h (sheetOctets h) st m c f on world (w .l) asked in
+    let v = outcome-valid (sheetOctets h) (layoutFor h) st (commandOf (formFor (h .pdu)) c) (h .l) f (some (st .link) on) (omega (arith, world .few)) in
+    let fits = subst₂ (λ (x y : ℕ). Fitting (formFor (h .pdu)) (o .effect) x y (length (sheetOctets h))) (sym asked) (sym whole)
+    (outcome-fits (sheetOctets h) (layoutFor h) (valid-sheet (sheetOctets h) (layoutFor h) (complete h w)) st (commandOf (formFor (h .pdu)) c)) in
+    let r = reply-same h (sheetOctets h) st m c o (fateOf h (octetsOf st) m c) same (fate-small h (octetsOf st) m c) v asked (subst (Sized (formFor (h .pdu))) (sym asked) (pdu-sized (h .pdu) (h .l) (world .long) (w .l))) fits in
     λ i. result 0 (same .place i) (same .next i) (same .memory i) (r i)
 
 picked : (b : Bool) (x y : After) {u v : Result} → leavesState x ≡ u → leavesState y ≡ v → leavesState (pick b x y) ≡ when b u v

@@ -12,7 +12,7 @@ use lib.ListN.{length, getD, drop, length-append}
 use lib.Seq.{getD-drop, drop-at, drop-drop}
 use Rattle.octets.proofs.Pick.{pick-yes, pick-no, pick-ge, pick-ne}
 use Rattle.regions.specs.Region.{regionsOf}
-use Rattle.sheet.specs.Kinds.{isLength, isKind, sizeOf, misplacedOf, endBefore, leastNumber, leastCode}
+use Rattle.sheet.specs.Kinds.{isKind, sizeOf, misplacedOf, endBefore, leastNumber, leastCode}
 use Rattle.sheet.specs.Reading.{linkOf, bodyOf, recordOf}
 use Rattle.sheet.specs.Walk.{none, toleranceIn, layoutOf, endedOf, onward, walkOf, verdictOf}
 use Rattle.sheet.specs.declared.records.Counts.{Counts}
@@ -21,7 +21,9 @@ use Rattle.sheet.specs.declared.walk.Layout.{Layout}
 use Rattle.sheet.specs.declared.walk.Verdict.{Verdict}
 use Rattle.sheet.specs.declared.walk.Verdict.the-variants.{Valid}
 use Rattle.law.specs.Words.{Every, From, InARow, joined, sumOf, octet}
-use Rattle.law.specs.Sheet.{Item as Ident, Sheet, GoodRegion, GoodParameter, GoodItem, WellFormed, FiveLengths, regionOctets, parameterOctets, itemOctets, toleranceOctets, written, sheetOctets, room}
+use Rattle.law.specs.Sheet.{Item as Ident, Sheet, GoodRegion, GoodParameter, GoodItem, WellFormed, PduType, GoodLength, linkKind, regionOctets, parameterOctets, itemOctets, toleranceOctets, written, sheetOctets, room}
+use Rattle.law.proofs.Links.{link-back, link-known, length-back, form-is}
+use Rattle.sheet.proofs.Onward.{link-begins}
 use Rattle.law.proofs.Running.{Ends, walk-on, run-all, length-joined}
 use Rattle.law.proofs.Readings.{behind-link, regions-listed, read-area, next-area, read-param, next-param, read-ident, next-ident, read-tolerance}
 use Rattle.law.proofs.Layouts.{layoutFor, full, counts, countsFor, asRegion}
@@ -35,21 +37,20 @@ end-read s so l (suc f) h =
     behind-link s 0 1 [] so l refl refl (pick-yes _ _ refl) (omega arith) ∙ pick-yes _ _ refl in
     rw e (pick-yes _ _ refl ∙ pick-no _ _ refl)
 
-pub five : (l : ℕ) → FiveLengths l → isLength l ≡ true
-unfolding isLength
-five l h =
-    ⊎-elim (λ (e : l ≡ 8). rw e) (⊎-elim (λ (e : l ≡ 16). rw e) (⊎-elim (λ (e : l ≡ 32). rw e) (⊎-elim (λ (e : l ≡ 48). rw e) (λ (e : l ≡ 64). rw e)))) h
-
-link-read : (l v p : ℕ) (t : List ℕ) → FiveLengths l → recordOf (1 ∷ l ∷ v ∷ p ∷ t) (1 ∷ l ∷ v ∷ p ∷ t) none ≡ Record 4 none
-unfolding recordOf bodyOf linkOf sizeOf isKind misplacedOf
-link-read l v p t h =
-    let s : List ℕ = 1 ∷ l ∷ v ∷ p ∷ t in
+link-read : (pdu : PduType) (l v p : ℕ) (t : List ℕ) → GoodLength pdu l
+    → recordOf (linkKind pdu ∷ l ∷ v ∷ p ∷ t) (linkKind pdu ∷ l ∷ v ∷ p ∷ t) none ≡ Record 4 none
+unfolding recordOf bodyOf linkOf sizeOf misplacedOf
+link-read pdu l v p t h =
+    let kind = linkKind pdu in
+    let s : List ℕ = kind ∷ l ∷ v ∷ p ∷ t in
+    let link = link-back pdu in
+    let some = link-begins kind link in
     let d : eqb (length s) (length s) ≡ true = eq-eqb (length s) (length s) refl in
-    let z : sizeOf 1 ≡ 4 = pick-no _ _ refl ∙ pick-yes _ _ refl in
+    let z : sizeOf kind ≡ 4 = pick-ne _ _ some ∙ pick-yes _ _ link in
     let n : eqb (length s) 0 ≡ false = ne-eqb _ _ (λ (q : length s ≡ 0). let w : ⊥ = omega arith in w) in
-    let u : sizeOf 1 ≤ length s = omega arith in
-    pick-no _ _ n ∙ pick-no _ _ refl ∙ pick-no _ _ (ap (λ (b : Bool). misplacedOf b 1 none) d) ∙ pick-ge _ _ u
-    ∙ pick-no _ _ refl ∙ pick-yes _ _ refl ∙ pick-no _ _ (ap not (five l h))
+    let u : sizeOf kind ≤ length s = omega arith in
+    pick-no _ _ n ∙ pick-no _ _ (ap not (link-known pdu)) ∙ pick-no _ _ (ap (λ (b : Bool). misplacedOf b kind none) d ∙ ap not link) ∙ pick-ge _ _ u
+    ∙ pick-ne _ _ some ∙ pick-yes _ _ link ∙ pick-no _ _ (ap not (length-back pdu l h))
 
 -- what stands behind records of one kind
 pub behind-all : {A : Type 0} (f : A → List ℕ) (Good : A → Type 0) (size : ℕ) → ((x : A) → Good x → length (f x) ≡ size) → (s : List ℕ) (base : ℕ)
@@ -152,7 +153,7 @@ come-behind h w rest v short go =
     (read-area s) (next-area s)
     (h .regions) tp refl (w .regions) (none-before s) (w .apart) (w .few-regions .0) (w .few-regions .1) go-parameters in
     pick-ge _ _ short
-    ∙ walk-on s s none v 4 none (link-read (h .l) (h .version) (h .profile) ta (w .l)) (λ (e : 1 ≡ 0). let z : ⊥ = omega arith in z) (omega arith) (omega arith)
+    ∙ walk-on s s none v 4 none (link-read (h .pdu) (h .l) (h .version) (h .profile) ta (w .l)) (link-begins (linkKind (h .pdu)) (link-back (h .pdu))) (omega arith) (omega arith)
     go-regions (suc (length s)) (omega arith)
 
 pub complete : (h : Sheet) → WellFormed h → verdictOf (sheetOctets h) ≡ Valid (layoutFor h)
@@ -169,6 +170,7 @@ complete h w =
     let lt = length-joined toleranceOctets (λ n. n ≤ 3) 2 (λ x g. refl) (h .tolerances) end (w .tolerances) in
     let t = tolerance-there s (h .tolerances) end (length (h .regions)) (length (h .parameters)) (length (h .items)) (room (h .regions)) (behind-items h w end) in
     let same : layoutOf s (countsFor h) ≡ layoutFor h = λ i. record {
+      form = form-is (h .pdu) i;
       l = h .l;
       version = h .version;
       profile = h .profile;

@@ -52,21 +52,6 @@ module _ (l : List ℕ) (o : (i : ℕ) → getD l i 0 < 256) where
   unfolding listed
   cut-tolerance h k = opened l 0 2 h ∙ ap (λ (x : ℕ). x ∷ getD l 1 0 ∷ drop 2 l) k
 
-or-true : (a b : Bool) → a || b ≡ true → (a ≡ true) ⊎ (b ≡ true)
-or-true true b e = inl refl
-or-true false b e = inr e
-
-pub five-back : (l : ℕ) → isLength l ≡ true → FiveLengths l
-unfolding isLength
-five-back l e =
-    ⊎-elim
-    (λ e₄. ⊎-elim
-    (λ e₃. ⊎-elim
-    (λ e₂. ⊎-elim (λ e₁. inl (eqb-true l 8 e₁)) (λ d. inr (inl (eqb-true l 16 d))) (or-true (eqb l 8) (eqb l 16) e₂))
-    (λ d. inr (inr (inl (eqb-true l 32 d)))) (or-true (eqb l 8 || eqb l 16) (eqb l 32) e₃))
-    (λ d. inr (inr (inr (inl (eqb-true l 48 d))))) (or-true (eqb l 8 || eqb l 16 || eqb l 32) (eqb l 48) e₄))
-    (λ d. inr (inr (inr (inr (eqb-true l 64 d))))) (or-true (eqb l 8 || eqb l 16 || eqb l 32 || eqb l 48) (eqb l 64) e)
-
 pub zeros-back : (l : List ℕ) → allZero l ≡ true → Every (λ (x : ℕ). x ≡ 0) l
 unfolding allZero
 zeros-back [] e = tt

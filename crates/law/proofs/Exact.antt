@@ -25,6 +25,7 @@ use Rattle.law.specs.Faults.{Sofar, nothing, records, before, GoodSofar,
 use Rattle.law.proofs.Checks.{same-number}
 use Rattle.law.proofs.Readings.{area-at, param-at, regions-listed, behind-link}
 use Rattle.law.proofs.Complete.{come-behind, behind-all, behind-items, ident-long}
+use Rattle.law.proofs.Links.{kind-pdu}
 use Rattle.law.proofs.Front.{readSheet}
 use Rattle.law.proofs.Place.{first-fault, later-fault}
 use Rattle.law.proofs.PaperKinds.{ident-same}
@@ -75,7 +76,7 @@ read-back h rest w =
     let k = length (h .items) in
     let d = all-back toleranceOctets (λ (n : ℕ). getD s (4 + 10 * r + 8 * p + 35 * k + 2 * n + 1) 0) (λ n. n ≤ 3) 2 (4 + 10 * r + 8 * p + 35 * k) s (λ x g. refl)
     (λ x t n at g. sym (getD-drop (4 + 10 * r + 8 * p + 35 * k + 2 * n) s 1 0) ∙ ap (λ (l : List ℕ). getD l 1 0) at) (h .tolerances) rest (behind-items h w rest) (w .tolerances) in
-    λ i. record { l = h .l; version = h .version; profile = h .profile; regions = a i; parameters = b i; items = c i; tolerances = d i }
+    λ i. record { pdu = kind-pdu (h .pdu) i; l = h .l; version = h .version; profile = h .profile; regions = a i; parameters = b i; items = c i; tolerances = d i }
 
 bad-ends : (s rest : List ℕ) (so : Counts) (f : Fault) → recordOf s rest so ≡ Bad f → Ends s (Faulty f (placeOf s rest)) rest so
 unfolding walkOf onward

@@ -25,6 +25,10 @@ use Rattle.law.proofs.Layouts.{asParameter}
 pub less-not : (a b : ℕ) → ltb a b ≡ not (leb b a)
 less-not a b = ⊎-elim (λ (l : a < b). lt-ltb a b l ∙ ap not (sym (lt-leb b a l))) (λ (l : b ≤ a). le-ltb a b l ∙ ap not (sym (le-leb b a l))) (lt-or-le a b)
 
+-- at most `most`, where that is told otherwise
+pub less-most : {most other : ℕ} (n : ℕ) → most ≡ other → ltb other n ≡ not (leb n most)
+less-most {most} {other} n e = less-not other n ∙ ap (λ (k : ℕ). not (leb n k)) (sym e)
+
 pub none-not : (n : ℕ) → eqb n 0 ≡ not (leb 1 n)
 none-not n =
     ⊎-elim (λ (e : n ≡ 0). eq-eqb n 0 e ∙ ap not (sym (lt-leb 1 n (omega arith)))) (λ (e : n ≡ 0 → ⊥). ne-eqb n 0 e ∙ ap not (sym (le-leb 1 n (

@@ -15,7 +15,7 @@ use Rattle.regions.specs.declared.Region.{Region}
 use Rattle.regions.specs.declared.Right.the-variants.{Mapped}
 use Rattle.regions.proofs.Spans.{all-before}
 use Rattle.sheet.specs.Entries.{parameterFrom, parameterAt, itemFrom}
-use Rattle.sheet.specs.Kinds.{isLength}
+use Rattle.sheet.specs.Kinds.{lengthFits}
 use Rattle.sheet.specs.Reading.{tailOf}
 use Rattle.sheet.specs.Walk.{toleranceIn, layoutOf}
 use Rattle.sheet.specs.Sound.{Sound, behind}
@@ -27,12 +27,14 @@ use Rattle.law.specs.Sheet.{Item as Ident, Sheet, GoodRegion, GoodParame
 use Rattle.law.proofs.Written.{opened}
 use Rattle.law.proofs.Marks.{Marked}
 use Rattle.law.proofs.Layouts.{layoutFor, asArea, asParam, identFrom}
+use Rattle.law.proofs.Links.{pduOf, link-there, form-read, length-there}
 use Rattle.law.proofs.Listed.{every-listed, row-listed, length-listed, all-listed}
-use Rattle.law.proofs.Cuts.{cut-area, cut-param, cut-ident, cut-tolerance, five-back, zeros-back, drop-take, grants-has, sum-listed, octet-at, octets-drop, octets-take, listed-none, listed-first}
+use Rattle.law.proofs.Cuts.{cut-area, cut-param, cut-ident, cut-tolerance, zeros-back, drop-take, grants-has, sum-listed, octet-at, octets-drop, octets-take, listed-none, listed-first}
 
 -- the sheet that the first records of octets are
 abbrev pub readSheet : List ℕ → Counts → Sheet
 readSheet s so = record {
+  pdu = pduOf (getD s 0 0);
   l = getD s 1 0;
   version = getD s 2 0;
   profile = getD s 3 0;
@@ -85,7 +87,7 @@ module _ (s : List ℕ) (octs : Every IsOctet s) where
       ∙ ap₂ (λ (n : ℕ) (t : List ℕ). toleranceOctets n ++ t) (getD-drop at s 1 0) (drop-drop 2 at s)
 
   module _ (so : Counts) (at : ℕ) (ok : Sound s at so) (mk : Marked s at so) (here : at ≡ behind so) (inside : at ≤ length s)
-      (five : isLength (getD s 1 0) ≡ true) where
+      (fits : lengthFits (getD s 0 0) (getD s 1 0) ≡ true) where
     good-area : (i : ℕ) → i < so .regions → GoodRegion (asArea (regionAt s i))
     unfolding regionFrom
     good-area i h =
@@ -155,7 +157,7 @@ module _ (s : List ℕ) (octs : Every IsOctet s) where
         let p = so .parameters in
         let k = so .items in
         record {
-          l = five-back (getD s 1 0) five;
+          l = length-there (getD s 0 0) (getD s 1 0) fits;
           version = o 2;
           profile = o 3;
           regions = every-listed _ GoodRegion 0 r (λ i l u. good-area i (omega arith));
@@ -188,7 +190,7 @@ module _ (s : List ℕ) (octs : Every IsOctet s) where
         (λ i h. tolerance-cut (4 + 10 * r + 8 * p + 35 * k + 2 * i) (omega arith) (mk .tolerances i h)) in
         let e : drop (behind so) s ≡ drop at s = ap (λ (i : ℕ). drop i s) (sym here) in
         opened s 0 4 (omega arith)
-        ∙ ap₂ (λ (x : ℕ) (t : List ℕ). x ∷ getD s 1 0 ∷ getD s 2 0 ∷ getD s 3 0 ∷ t) (mk .link (omega arith))
+        ∙ ap₂ (λ (x : ℕ) (t : List ℕ). x ∷ getD s 1 0 ∷ getD s 2 0 ∷ getD s 3 0 ∷ t) (link-there (getD s 0 0) (mk .link (omega arith)))
         (a ∙ ap (λ (t : List ℕ). joined regionOctets (readSheet s so .regions) ++ t)
         (b ∙ ap (λ (t : List ℕ). joined parameterOctets (readSheet s so .parameters) ++ t)
         (c ∙ ap (λ (t : List ℕ). joined itemOctets (readSheet s so .items) ++ t)
@@ -219,4 +221,4 @@ module _ (s : List ℕ) (octs : Every IsOctet s) where
         let t = sym (length-listed (λ (n : ℕ). getD s (4 + 10 * r + 8 * p + 35 * k + 2 * n + 1) 0) 0 (so .tolerances)) in
         let v = tolerance-read in
         let m = ok .memory-sum ∙ sym (sum-listed (regionAt s) 0 r) in
-        λ i. record { l = getD s 1 0; version = getD s 2 0; profile = getD s 3 0; regions = a i; parameters = b i; items = c i; tolerances = t i; tolerance = v i; memory = m i }
+        λ i. record { form = form-read (getD s 0 0) i; l = getD s 1 0; version = getD s 2 0; profile = getD s 3 0; regions = a i; parameters = b i; items = c i; tolerances = t i; tolerance = v i; memory = m i }

@@ -2,7 +2,7 @@
 use mathlib.Core.Bool.{Bool, true, false, _&&_}
 use mathlib.Core.Logic.{⊎-elim}
 use mathlib.Core.Path.{_≡_, refl, sym, ap, ap₂, _∙_}
-use mathlib.Core.List.{List, [], _∷_}
+use mathlib.Core.List.{List, [], _∷_, _++_}
 use Prim.Native.Nat.{ℕ, zero, suc, _+_, _-_, _≤_, _<_}
 use native.Mathlib.Omega.{arith}
 use borrow.Author.Tests.{lt-ltb, le-ltb, le-leb, lt-leb}
@@ -110,6 +110,12 @@ pub laid-before : (ps : List Piece) (k old : ℕ) → Every (λ (p : Piece). k <
 unfolding laid
 laid-before [] k old all = refl
 laid-before (p ∷ ps) k old all = ap (laid ps k) (lies-below p k old (all .0)) ∙ laid-before ps k old (all .1)
+
+-- pieces laid over others
+pub laid-append : (ps qs : List Piece) (k old : ℕ) → laid (ps ++ qs) k old ≡ laid qs k (laid ps k old)
+unfolding laid
+laid-append [] qs k old = refl
+laid-append (p ∷ ps) qs k old = laid-append ps qs k (lies p k old)
 
 -- pieces and the frame's octets
 pub picked : (b : Bool) (x y : ℕ) → pick b x y ≡ when b x y

@@ -5,11 +5,19 @@ use lib.ListN.{length, getD, take, drop}
 use Rattle.regions.specs.declared.Region.{Region}
 use Rattle.sheet.specs.declared.entries.Parameter.{Parameter}
 use Rattle.sheet.specs.declared.records.Counts.{Counts}
+use Rattle.sheet.specs.declared.walk.Form.{Form}
+use Rattle.sheet.specs.declared.walk.Form.the-variants.{Enhanced, Short}
 use Rattle.sheet.specs.declared.walk.Layout.{Layout}
-use Rattle.law.specs.Sheet.{Region as Area, Parameter as Param, Item as Ident, Sheet, allows, room}
+use Rattle.law.specs.Sheet.{PduType, enhanced, short, Region as Area, Parameter as Param, Item as Ident, Sheet, allows, room}
 
-abbrev pub layoutFor : Sheet → Layout
-layoutFor h = record {
+abbrev pub formFor : PduType → Form
+formFor enhanced = Enhanced
+formFor short = Short
+
+-- a sheet's layout, as if its type were another
+abbrev pub layoutAs : PduType → Sheet → Layout
+layoutAs pdu h = record {
+  form = formFor pdu;
   l = h .l;
   version = h .version;
   profile = h .profile;
@@ -20,6 +28,9 @@ layoutFor h = record {
   tolerance = allows h;
   memory = room (h .regions);
 }
+
+abbrev pub layoutFor : Sheet → Layout
+layoutFor h = layoutAs (h .pdu) h
 
 abbrev pub full : ℕ → ℕ → ℕ → ℕ → ℕ → Counts
 full n p k t m = record { regions = n; parameters = p; items = k; tolerances = t; memory = m }

@@ -1,5 +1,6 @@
 -- That the calls do what the tables say. In these proofs an area, a param and an ident are the law's region, parameter and ID item: the machine has its own.
 pub mod Layouts
+pub mod Links
 pub mod Written
 pub mod Listed
 pub mod OneSheet
@@ -23,6 +24,9 @@ pub mod Held
 pub mod Fields
 pub mod World
 pub mod Rows
+pub mod Codes
+pub mod EnhancedRows
+pub mod ShortRows
 pub mod Fates
 pub mod Worlds
 pub mod Replies

@@ -5,13 +5,13 @@ use mathlib.Core.Path.{_≡_, refl, sym, ap, subst, _∙_}
 use mathlib.Core.List.{List}
 use Prim.Native.Nat.{ℕ, zero, suc, _+_, _*_, _≤_, _<_}
 use native.Mathlib.Omega.{arith}
-use borrow.Author.Tests.{eqb-true, eqb-false, eq-eqb, ne-eqb, not-false}
+use borrow.Author.Tests.{eqb-false, eq-eqb, ne-eqb, not-false}
 use lib.ListN.{length, getD, drop}
 use lib.Seq.{getD-drop}
 use Rattle.octets.specs.Parts.{allZero}
 use Rattle.octets.proofs.Cases.{eq-or-ne}
-use Rattle.octets.proofs.Pick.{passed, pick-eq, pick-ne, pick-key}
-use Rattle.sheet.specs.Kinds.{isKind, misplacedOf}
+use Rattle.octets.proofs.Pick.{passed, pick-yes, pick-no, pick-eq, pick-ne}
+use Rattle.sheet.specs.Kinds.{isKind, isLink, misplacedOf}
 use Rattle.sheet.specs.Reading.{linkOf, regionOf, parameterOf, itemOf, toleranceOf, bodyOf, recordOf, tailOf}
 use Rattle.sheet.specs.Sound.{Standing, behind}
 use Rattle.sheet.specs.Walk.{none, placeOf, endedOf, onward, walkOf}
@@ -22,12 +22,12 @@ use Rattle.sheet.specs.declared.records.Reading.the-variants.{Record, Bad}
 use Rattle.sheet.specs.declared.walk.Verdict.{Verdict}
 use Rattle.sheet.specs.declared.walk.Verdict.the-variants.{Faulty}
 use Rattle.sheet.proofs.Judged.{bad-record, same-counts, region-read, parameter-read, item-read, tolerance-read}
-use Rattle.sheet.proofs.Onward.{in-place, last-kind, record-sound}
+use Rattle.sheet.proofs.Onward.{in-place, last-kind, link-begins, record-sound}
 use Rattle.sheet.proofs.Steps.{one-more}
 use Rattle.sheet.proofs.Walked.{standing-behind}
 
 pub record Marked (s : List ℕ) (at : ℕ) (so : Counts) : Type 0 where
-  pub link : 1 ≤ at → getD s 0 0 ≡ 1
+  pub link : 1 ≤ at → isLink (getD s 0 0) ≡ true
   pub regions : (i : ℕ) → i < so .regions → getD s (4 + 10 * i) 0 ≡ 2
   pub parameters : (j : ℕ) → j < so .parameters → getD s (4 + 10 * so .regions + 8 * j) 0 ≡ 3
   pub items : (k : ℕ) → k < so .items
@@ -44,10 +44,10 @@ module _ (s rest : List ℕ) (so : Counts) (n : ℕ) (next : Counts) (st : Stand
       → Marked s (placeOf s rest + n) next
   unfolding misplacedOf bodyOf linkOf
   first-marked z e m body =
-      let kind : getD rest 0 0 ≡ 1 = eqb-true (getD rest 0 0) 1 (not-false _ m) in
-      let p = passed _ bad-record (sym (pick-key 0 _ _ kind refl ∙ pick-eq _ _ kind) ∙ body) in
+      let kind : isLink (getD rest 0 0) ≡ true = not-false _ m in
+      let p = passed _ bad-record (sym (pick-ne _ _ (link-begins (getD rest 0 0) kind) ∙ pick-yes _ _ kind) ∙ body) in
       subst (λ (c : Counts). Marked s (placeOf s rest + n) c) (sym e ∙ same-counts (p .1)) (record {
-        link = λ h. ap (λ (i : ℕ). getD s i 0) (sym z) ∙ here ∙ kind;
+        link = λ h. ap isLink (ap (λ (i : ℕ). getD s i 0) (sym z) ∙ here) ∙ kind;
         regions = λ i h. absurd (let k : ⊥ = omega arith in k);
         parameters = λ i h. absurd (let k : ⊥ = omega arith in k);
         items = λ i h. absurd (let k : ⊥ = omega arith in k);
@@ -55,7 +55,7 @@ module _ (s rest : List ℕ) (so : Counts) (n : ℕ) (next : Counts) (st : Stand
       })
 
   module _ (at : placeOf s rest ≡ behind so) (m : misplacedOf false (getD rest 0 0) so ≡ false) where
-    linked : 1 ≤ placeOf s rest + n → getD s 0 0 ≡ 1
+    linked : 1 ≤ placeOf s rest + n → isLink (getD s 0 0) ≡ true
     linked h = mk .link (omega arith)
 
     later-marked : (getD rest 0 0 ≡ 0 → ⊥) → isKind (getD rest 0 0) ≡ true → bodyOf (getD rest 0 0) s rest so ≡ Record n next → Marked s (placeOf s rest + n) next
@@ -63,7 +63,7 @@ module _ (s rest : List ℕ) (so : Counts) (n : ℕ) (next : Counts) (st : Stand
     later-marked n₀ known body =
         let o = in-place (getD rest 0 0) so m in
         let n₁ = o .0 in
-        let b = sym (pick-ne _ _ n₀ ∙ pick-ne _ _ n₁) ∙ body in
+        let b = sym (pick-ne _ _ n₀ ∙ pick-no _ _ n₁) ∙ body in
         ⊎-elim
         (λ (k₂ : getD rest 0 0 ≡ 2).
         let q = region-read _ _ so n next (sym (pick-eq _ _ k₂) ∙ b) in

@@ -5,6 +5,7 @@ use Prim.Native.Nat.{ℕ, _%_, _/_, _<_, _≤_}
 use native.Mathlib.Omega.{arith}
 use Rattle.law.specs.Words.{Every, joined, inOctets}
 use Rattle.law.specs.Sheet.{Region, Parameter, Item, Sheet, regionOctets, parameterOctets, itemOctets, sheetOctets, FiveLengths, IsOctet, GoodRegion, GoodParameter, GoodItem, WellFormed, toleranceOctets}
+use Rattle.law.proofs.Links.{kind-octet, good-five}
 
 both : (xs t : List ℕ) → Every IsOctet xs → Every IsOctet t → Every IsOctet (xs ++ t)
 both [] t o u = u
@@ -58,4 +59,4 @@ in-octets h w =
     let items = both (joined itemOctets (h .items)) tt′ (all itemOctets GoodItem item-octets (h .items) (w .items)) tolerances in
     let parameters = both (joined parameterOctets (h .parameters)) ti (all parameterOctets (GoodParameter (h .regions)) (parameter-octets (h .regions)) (h .parameters) (w .parameters)) items in
     let regions = both (joined regionOctets (h .regions)) (joined parameterOctets (h .parameters) ++ ti) (all regionOctets GoodRegion region-octets (h .regions) (w .regions)) parameters in
-    (small 1 2 (omega arith) (omega arith), (five (h .l) (w .l), (w .version, (w .profile, regions))))
+    (kind-octet (h .pdu), (five (h .l) (good-five (h .pdu) (h .l) (w .l)), (w .version, (w .profile, regions))))

@@ -8,6 +8,7 @@ use lib.Seq.{take-at, drop-at}
 use Rattle.octets.specs.Numbers.{le2At, le4At}
 use Rattle.law.specs.Words.{Every, joined}
 use Rattle.law.specs.Sheet.{Region as Area, Parameter as Param, Item as Ident, Sheet, GoodRegion, GoodParameter, GoodItem, WellFormed, regionOctets, parameterOctets, itemOctets, toleranceOctets, sheetOctets}
+use Rattle.law.proofs.Links.{pduOf, kind-pdu}
 use Rattle.law.proofs.Written.{le2-back, le4-back}
 
 -- one record, and what is behind it
@@ -91,4 +92,5 @@ one-sheet a b v w e =
     let l : a .l ≡ b .l = ap (λ (o : List ℕ). getD o 1 0) e in
     let m : a .version ≡ b .version = ap (λ (o : List ℕ). getD o 2 0) e in
     let n : a .profile ≡ b .profile = ap (λ (o : List ℕ). getD o 3 0) e in
-    λ i. record { l = l i; version = m i; profile = n i; regions = r .0 i; parameters = p .0 i; items = k .0 i; tolerances = q .0 i }
+    let d : a .pdu ≡ b .pdu = sym (kind-pdu (a .pdu)) ∙ ap (λ (o : List ℕ). pduOf (getD o 0 0)) e ∙ kind-pdu (b .pdu) in
+    λ i. record { pdu = d i; l = l i; version = m i; profile = n i; regions = r .0 i; parameters = p .0 i; items = k .0 i; tolerances = q .0 i }

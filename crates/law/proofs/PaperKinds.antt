@@ -1,19 +1,19 @@
 -- The code's kinds, places and records are the paper's.
 use mathlib.Core.Bool.{Bool, true, false, _&&_, _||_}
-use mathlib.Core.Logic.{inl, inr, ⊎-elim}
-use mathlib.Core.Path.{_≡_, refl, sym, ap, _∙_}
+use mathlib.Core.Logic.{⊎-elim}
+use mathlib.Core.Path.{_≡_, refl, ap, _∙_}
 use mathlib.Core.List.{List, _++_}
 use Prim.Native.Nat.{ℕ, zero, suc, _+_, _≤_, _<_}
 use native.Mathlib.Omega.{arith}
-use borrow.Author.Tests.{eqb-true, eq-eqb, ne-eqb, le-ltb, le-leb, lt-leb}
+use borrow.Author.Tests.{eq-eqb, ne-eqb, le-ltb, le-leb, leb-true}
 use lib.Dec.{eqb, ltb}
 use lib.ListN.{length, getD}
 use lib.Seq.{take-at}
-use Rattle.octets.proofs.Cases.{eq-or-ne, lt-or-le}
-use Rattle.octets.proofs.Pick.{pick-yes, pick-no, pick-ne}
+use Rattle.octets.proofs.Cases.{eq-or-ne}
+use Rattle.octets.proofs.Pick.{pick-yes, pick-no}
 use Rattle.regions.specs.Region.{regionFrom}
 use Rattle.sheet.specs.Entries.{parameterFrom}
-use Rattle.sheet.specs.Kinds.{isKind, sizeOf, misplacedOf}
+use Rattle.sheet.specs.Kinds.{isKind, isLink, sizeOf, misplacedOf}
 use Rattle.sheet.specs.declared.records.Counts.{Counts}
 use Rattle.law.specs.Sheet.{Region as Area, Parameter as Param, Item as Ident, regionOctets, parameterOctets, itemOctets}
 use Rattle.law.specs.Faults.{Kind, recordLength}
@@ -27,28 +27,18 @@ size-same (suc zero) h = pick-no _ _ refl ∙ pick-yes _ _ refl
 size-same (suc (suc zero)) h = pick-no _ _ refl ∙ pick-no _ _ refl ∙ pick-yes _ _ refl
 size-same (suc (suc (suc zero))) h = pick-no _ _ refl ∙ pick-no _ _ refl ∙ pick-no _ _ refl ∙ pick-yes _ _ refl
 size-same (suc (suc (suc (suc zero)))) h = pick-no _ _ refl ∙ pick-no _ _ refl ∙ pick-no _ _ refl ∙ pick-no _ _ refl ∙ pick-yes _ _ refl
-size-same (suc (suc (suc (suc (suc n))))) h =
-    let k = suc (suc (suc (suc (suc n)))) in
-    let e : (j : ℕ) → j < 5 → k ≡ j → ⊥ = λ j l q. omega arith in
-    pick-ne _ _ (e 0 (omega arith)) ∙ pick-ne _ _ (e 1 (omega arith)) ∙ pick-ne _ _ (e 2 (omega arith)) ∙ pick-ne _ _ (e 3 (omega arith))
-    ∙ pick-ne _ _ (e 4 (omega arith))
+size-same (suc (suc (suc (suc (suc zero))))) h = pick-no _ _ refl ∙ pick-yes _ _ refl
+size-same (suc (suc (suc (suc (suc (suc zero)))))) h = pick-no _ _ refl ∙ pick-no _ _ refl ∙ pick-no _ _ refl ∙ pick-no _ _ refl ∙ pick-no _ _ refl
+size-same (suc (suc (suc (suc (suc (suc (suc n))))))) h = absurd (let w : ⊥ = omega arith in w)
 
 -- the code's kinds are the paper's
 pub kind-there : (k : ℕ) → isKind k ≡ true → Kind k
 unfolding isKind
-kind-there k e =
-    ⊎-elim
-    (λ (l : 4 < k). inr (eqb-true k 6 (sym (ap (λ (b : Bool). b || eqb k 6) (lt-leb k 4 l)) ∙ e)))
-    (λ (l : k ≤ 4). inl l)
-    (lt-or-le 4 k)
+kind-there k e = leb-true k 6 e
 
 pub kind-back : (k : ℕ) → Kind k → isKind k ≡ true
 unfolding isKind
-kind-back k h =
-    ⊎-elim
-    (λ (l : k ≤ 4). ap (λ (b : Bool). b || eqb k 6) (le-leb k 4 l))
-    (λ (e : k ≡ 6). rw e)
-    h
+kind-back k h = le-leb k 6 h
 
 or-both : (a b : Bool) → a ≡ false → b ≡ false → a || b ≡ false
 or-both true b e f = e
@@ -61,7 +51,7 @@ kind-free kind k n h =
     (λ (e : kind ≡ k → ⊥). ap (λ (b : Bool). b && ltb 0 n) (ne-eqb kind k e))
     (eq-or-ne kind k)
 
-pub place-in : (kind : ℕ) (so : Counts) → (kind ≡ 1 → ⊥) → (kind ≡ 2 → so .parameters ≡ 0) → (kind ≡ 2 → so .items ≡ 0) → (kind ≡ 2 → so .tolerances ≡ 0)
+pub place-in : (kind : ℕ) (so : Counts) → isLink kind ≡ false → (kind ≡ 2 → so .parameters ≡ 0) → (kind ≡ 2 → so .items ≡ 0) → (kind ≡ 2 → so .tolerances ≡ 0)
     → (kind ≡ 3 → so .items ≡ 0) → (kind ≡ 3 → so .tolerances ≡ 0) → (kind ≡ 4 → so .tolerances ≡ 0) → (kind ≡ 6 → so .tolerances ≡ 0)
     → misplacedOf false kind so ≡ false
 unfolding misplacedOf
@@ -72,7 +62,7 @@ place-in kind so a b c d e f g h =
     (or-both _ _
     (or-both _ _
     (or-both _ _
-    (or-both _ _ (ne-eqb kind 1 a) (kind-free kind 2 (so .parameters) b))
+    (or-both _ _ a (kind-free kind 2 (so .parameters) b))
     (kind-free kind 2 (so .items) c))
     (kind-free kind 2 (so .tolerances) d))
     (kind-free kind 3 (so .items) e))

@@ -14,7 +14,7 @@ use Rattle.octets.proofs.Pick.{pick-yes, pick-no, pick-eq, pick-ne, pick-key}
 use Rattle.regions.specs.Region.{regionFrom, regionAt}
 use Rattle.sheet.specs.Entries.{parameterFrom, parameterAt}
 use Rattle.sheet.specs.Faults.{numberOf}
-use Rattle.sheet.specs.Kinds.{isKind, sizeOf, misplacedOf}
+use Rattle.sheet.specs.Kinds.{isKind, isLink, lengthFits, sizeOf, misplacedOf}
 use Rattle.sheet.specs.Reading.{linkOf, regionOf, parameterOf, itemOf, toleranceOf, bodyOf, recordOf}
 use Rattle.sheet.specs.Sound.{Sound}
 use Rattle.sheet.specs.Walk.{none, placeOf, endedOf, verdictOf}
@@ -24,15 +24,15 @@ use Rattle.sheet.specs.declared.records.Fault.the-variants.{Ended, Unknown, Mis
 use Rattle.sheet.specs.declared.records.Reading.the-variants.{Bad}
 use Rattle.sheet.specs.declared.walk.Layout.{Layout}
 use Rattle.sheet.specs.declared.walk.Verdict.the-variants.{Valid, Faulty}
-use Rattle.sheet.proofs.Onward.{in-place, last-kind}
+use Rattle.sheet.proofs.Onward.{in-place, last-kind, link-begins}
 use Rattle.law.specs.Words.{Every}
-use Rattle.law.specs.Sheet.{Region as Area, Parameter as Param, Item as Ident, WellFormed, IsOctet, regionOctets, parameterOctets, itemOctets, toleranceOctets, written, room}
+use Rattle.law.specs.Sheet.{PduType, Region as Area, Parameter as Param, Item as Ident, WellFormed, GoodLength, linkKind, IsOctet, regionOctets, parameterOctets, itemOctets, toleranceOctets, written, room}
 use Rattle.law.specs.Faults.{RegionFault, ParameterFault, ItemFault, ToleranceFault, nothing, records, InPlace, recordLength, BodyFault, RecordFault, FirstFault}
 use Rattle.law.proofs.Checks.{decides, passes, no-more, read-no-fault}
-use Rattle.law.proofs.Complete.{five}
+use Rattle.law.proofs.Links.{pduOf, link-back, link-there, no-link, not-link, length-back, length-there}
 use Rattle.law.proofs.RecordFaults.{area-fault, param-fault, ident-fault, tolerance-fault}
 use Rattle.law.proofs.Front.{readSheet, front-good, front-written}
-use Rattle.law.proofs.Cuts.{five-back, cut-area, cut-param, cut-ident, cut-tolerance, octet-at, octets-drop, sum-listed}
+use Rattle.law.proofs.Cuts.{cut-area, cut-param, cut-ident, cut-tolerance, octet-at, octets-drop, sum-listed}
 use Rattle.law.proofs.Sound.{reached, end-later}
 use Rattle.law.proofs.Layouts.{asArea, asParam, identFrom}
 use Rattle.law.proofs.Listed.{length-listed}
@@ -51,26 +51,29 @@ module _ (s rest : List ℕ) (octs : Every IsOctet rest) (fault : Fault) where
       let known = kind-there kind (not-false _ b₂) in
       passes known
       (decides _ Misplaced _ refl
-      (λ b (q : kind ≡ 1). true≢false (sym b ∙ ap (λ (x : Bool). misplacedOf x kind none) t ∙ ap not (eq-eqb kind 1 q))) (λ b₃.
-      let one : kind ≡ 1 = eqb-true kind 1 (not-false _ (sym (ap (λ (x : Bool). misplacedOf x kind none) t) ∙ b₃)) in
+      (λ b (q : InPlace nothing kind). true≢false (sym b ∙ ap (λ (x : Bool). misplacedOf x kind none) t ∙ ap not (ap isLink (q .1) ∙ link-back (q .0)))) (λ b₃.
+      let link : isLink kind ≡ true = not-false _ (sym (ap (λ (x : Bool). misplacedOf x kind none) t) ∙ b₃) in
       let size = size-same kind known in
-      passes one
+      passes (pduOf kind, link-there kind link)
       (decides _ Ended _ refl (λ b q. let k = ltb-true (length rest) (sizeOf kind) b in omega (arith, size, q, k)) (λ b₄.
-      passes (let k = ltb-false (length rest) (sizeOf kind) b₄ in omega (arith, size, k)) (link-fault one))))))))
+      passes (let k = ltb-false (length rest) (sizeOf kind) b₄ in omega (arith, size, k)) (link-fault link))))))))
     where
-      link-fault : getD rest 0 0 ≡ 1 → (bodyOf (getD rest 0 0) s rest none ≡ Bad fault) ↔ BodyFault nothing rest (numberOf fault)
-      link-fault one =
-          let e : bodyOf (getD rest 0 0) s rest none ≡ linkOf rest none = pick-key 0 _ _ one refl ∙ pick-eq _ _ one in
+      link-fault : isLink (getD rest 0 0) ≡ true → (bodyOf (getD rest 0 0) s rest none ≡ Bad fault) ↔ BodyFault nothing rest (numberOf fault)
+      link-fault link =
+          let kind = getD rest 0 0 in
+          let l = getD rest 1 0 in
+          let e : bodyOf kind s rest none ≡ linkOf rest none = pick-ne _ _ (link-begins kind link) ∙ pick-yes _ _ link in
           let d : (linkOf rest none ≡ Bad fault) ↔ BodyFault nothing rest (numberOf fault) =
-          decides _ Range _ refl (λ b q. true≢false (sym b ∙ ap not (five (getD rest 1 0) q)))
-          (λ b. passes (five-back (getD rest 1 0) (not-false _ b)) no-more) in
+          decides _ Range _ refl
+          (λ b (q : (t : PduType) × (kind ≡ linkKind t) × GoodLength t l). true≢false (sym b ∙ ap not (ap (λ (k : ℕ). lengthFits k l) (q .1) ∙ length-back (q .0) l (q .2))))
+          (λ b. passes (pduOf kind, link-there kind link, length-there kind l (not-false _ b)) no-more) in
           (λ w. d .0 (sym e ∙ w), λ c. e ∙ d .1 c)
 
   module _ (so : Counts) (good : WellFormed (readSheet s so)) (memory : room (readSheet s so .regions) ≡ so .memory) where
     o : (i : ℕ) → getD rest i 0 < 256
     o = octet-at rest octs
 
-    body-there : isKind (getD rest 0 0) ≡ true → (getD rest 0 0 ≡ 1 → ⊥) → recordLength (getD rest 0 0) ≤ length rest
+    body-there : isKind (getD rest 0 0) ≡ true → isLink (getD rest 0 0) ≡ false → recordLength (getD rest 0 0) ≤ length rest
         → bodyOf (getD rest 0 0) s rest so ≡ Bad fault → BodyFault (records (readSheet s so)) rest (numberOf fault)
     unfolding bodyOf regionOf parameterOf itemOf toleranceOf
     body-there known n₁ fits w =
@@ -88,7 +91,7 @@ module _ (s rest : List ℕ) (octs : Every IsOctet rest) (fault : Fault) where
           f .0,
           f .1,
           area-fault s so fault memory (good .numbers-rise) (regionFrom rest 0) (good .apart) (f .0) (f .1) .0
-              (sym (pick-ne _ _ n₀ ∙ pick-ne _ _ n₁ ∙ pick-eq _ _ k) ∙ w),
+              (sym (pick-ne _ _ n₀ ∙ pick-no _ _ n₁ ∙ pick-eq _ _ k) ∙ w),
         ))
         (λ (n₂ : getD rest 0 0 ≡ 2 → ⊥).
         ⊎-elim
@@ -101,10 +104,10 @@ module _ (s rest : List ℕ) (octs : Every IsOctet rest) (fault : Fault) where
           cut-param rest o long k,
           f .0,
           f .1,
-          param-fault s so fault memory (good .numbers-rise) (parameterFrom rest 0) .0 (sym (pick-ne _ _ n₀ ∙ pick-ne _ _ n₁ ∙ pick-ne _ _ n₂ ∙ pick-eq _ _ k) ∙ w),
+          param-fault s so fault memory (good .numbers-rise) (parameterFrom rest 0) .0 (sym (pick-ne _ _ n₀ ∙ pick-no _ _ n₁ ∙ pick-ne _ _ n₂ ∙ pick-eq _ _ k) ∙ w),
         )))
         (λ (n₃ : getD rest 0 0 ≡ 3 → ⊥).
-        let past = pick-ne _ _ n₀ ∙ pick-ne _ _ n₁ ∙ pick-ne _ _ n₂ ∙ pick-ne _ _ n₃ in
+        let past = pick-ne _ _ n₀ ∙ pick-no _ _ n₁ ∙ pick-ne _ _ n₂ ∙ pick-ne _ _ n₃ in
         ⊎-elim
         (λ (k : getD rest 0 0 ≡ 4).
         let long : 35 ≤ length rest = subst (λ (j : ℕ). recordLength j ≤ length rest) k fits in
@@ -139,27 +142,27 @@ module _ (s rest : List ℕ) (octs : Every IsOctet rest) (fault : Fault) where
         (λ (x : (r : Area) × (t : List ℕ) × (rest ≡ regionOctets r ++ t) × (r .start < 4294967296) × (r .length < 4294967296) × RegionFault h r (numberOf fault)).
         let k : getD rest 0 0 ≡ 2 = ap (λ (l : List ℕ). getD l 0 0) (x .2) in
         let e : asArea (regionFrom rest 0) ≡ x .0 = ap (λ (l : List ℕ). asArea (regionFrom l 0)) (x .2) ∙ area-same (x .0) (x .1) (x .3) (x .4) in
-        pick-key 0 _ _ k refl ∙ pick-key 1 _ _ k refl ∙ pick-eq _ _ k
+        pick-key 0 _ _ k refl ∙ pick-no _ _ (ap isLink k) ∙ pick-eq _ _ k
         ∙ area-fault s so fault memory (good .numbers-rise) (regionFrom rest 0) (good .apart) (f .0) (f .1) .1
         (subst (λ (r : Area). RegionFault h r (numberOf fault)) (sym e) (x .5)))
         (⊎-elim
         (λ (x : (p : Param) × (t : List ℕ) × (rest ≡ parameterOctets p ++ t) × (p .number < 65536) × (p .address < 4294967296) × ParameterFault h p (numberOf fault)).
         let k : getD rest 0 0 ≡ 3 = ap (λ (l : List ℕ). getD l 0 0) (x .2) in
         let e : asParam (parameterFrom rest 0) ≡ x .0 = ap (λ (l : List ℕ). asParam (parameterFrom l 0)) (x .2) ∙ param-same (x .0) (x .1) (x .3) (x .4) in
-        pick-key 0 _ _ k refl ∙ pick-key 1 _ _ k refl ∙ pick-key 2 _ _ k refl ∙ pick-eq _ _ k
+        pick-key 0 _ _ k refl ∙ pick-no _ _ (ap isLink k) ∙ pick-key 2 _ _ k refl ∙ pick-eq _ _ k
         ∙ param-fault s so fault memory (good .numbers-rise) (parameterFrom rest 0) .1 (subst (λ (p : Param). ParameterFault h p (numberOf fault)) (sym e) (x .5)))
         (⊎-elim
         (λ (x : (i : Ident) × (t : List ℕ) × (rest ≡ itemOctets i ++ t) × (length (i .octets) ≡ 32) × ItemFault h i (numberOf fault)).
         let k : getD rest 0 0 ≡ 4 = ap (λ (l : List ℕ). getD l 0 0) (x .2) in
         let e : identFrom rest 0 ≡ x .0 = ap (λ (l : List ℕ). identFrom l 0) (x .2) ∙ ident-same (x .0) (x .1) (x .3) in
         let long : 35 ≤ length rest = subst (λ (j : ℕ). recordLength j ≤ length rest) k fits in
-        pick-key 0 _ _ k refl ∙ pick-key 1 _ _ k refl ∙ pick-key 2 _ _ k refl ∙ pick-key 3 _ _ k refl ∙ pick-eq _ _ k
+        pick-key 0 _ _ k refl ∙ pick-no _ _ (ap isLink k) ∙ pick-key 2 _ _ k refl ∙ pick-key 3 _ _ k refl ∙ pick-eq _ _ k
         ∙ ident-fault s so fault memory (good .numbers-rise) rest octs long (good .codes-rise) .1
         (subst (λ (i : Ident). ItemFault h i (numberOf fault)) (sym e) (x .4)))
         (λ (x : (n : ℕ) × (t : List ℕ) × (rest ≡ toleranceOctets n ++ t) × ToleranceFault n (numberOf fault)).
         let k : getD rest 0 0 ≡ 6 = ap (λ (l : List ℕ). getD l 0 0) (x .2) in
         let e : getD rest 1 0 ≡ x .0 = ap (λ (l : List ℕ). getD l 1 0) (x .2) in
-        pick-key 0 _ _ k refl ∙ pick-key 1 _ _ k refl ∙ pick-key 2 _ _ k refl ∙ pick-key 3 _ _ k refl ∙ pick-key 4 _ _ k refl
+        pick-key 0 _ _ k refl ∙ pick-no _ _ (ap isLink k) ∙ pick-key 2 _ _ k refl ∙ pick-key 3 _ _ k refl ∙ pick-key 4 _ _ k refl
         ∙ tolerance-fault so fault (getD rest 1 0) .1 (subst (λ (n : ℕ). ToleranceFault n (numberOf fault)) (sym e) (x .3)))))
         c
 
@@ -181,10 +184,10 @@ module _ (s rest : List ℕ) (octs : Every IsOctet rest) (fault : Fault) where
         (decides _ Misplaced _ refl
         (λ b (q : InPlace (records (readSheet s so)) kind).
         true≢false (sym b ∙ ap (λ (x : Bool). misplacedOf x kind so) t
-        ∙ place-in kind so (q .0) (λ e. sym np ∙ q .1 e) (λ e. sym ni ∙ q .2 e) (λ e. sym nt ∙ q .3 e) (λ e. sym ni ∙ q .4 e) (λ e. sym nt ∙ q .5 e) (λ e. sym nt ∙ q .6 e) (λ e. sym nt ∙ q .7 e))) (λ b₃.
+        ∙ place-in kind so (not-link kind (q .0)) (λ e. sym np ∙ q .1 e) (λ e. sym ni ∙ q .2 e) (λ e. sym nt ∙ q .3 e) (λ e. sym ni ∙ q .4 e) (λ e. sym nt ∙ q .5 e) (λ e. sym nt ∙ q .6 e) (λ e. sym nt ∙ q .7 e))) (λ b₃.
         let i = in-place kind so (sym (ap (λ (x : Bool). misplacedOf x kind so) t) ∙ b₃) in
         let size = size-same kind known in
-        passes (i .0, λ e. np ∙ i .1 e, λ e. ni ∙ i .2 e, λ e. nt ∙ i .3 e, λ e. ni ∙ i .4 e, λ e. nt ∙ i .5 e, λ e. nt ∙ i .6 e, λ e. nt ∙ i .7 e)
+        passes (no-link kind (i .0), λ e. np ∙ i .1 e, λ e. ni ∙ i .2 e, λ e. nt ∙ i .3 e, λ e. ni ∙ i .4 e, λ e. nt ∙ i .5 e, λ e. nt ∙ i .6 e, λ e. nt ∙ i .7 e)
         (decides _ Ended _ refl (λ b q. let k = ltb-true (length rest) (sizeOf kind) b in omega (arith, size, q, k)) (λ b₄.
         let fits : recordLength kind ≤ length rest = let k = ltb-false (length rest) (sizeOf kind) b₄ in omega (arith, size, k) in
         passes fits (body-there (not-false _ b₂) (i .0) fits, body-back fits))))))))

@@ -36,13 +36,14 @@ use Rattle.law.specs.Memory.{cells}
 use Rattle.law.specs.Exchange.{fateOf}
 use Rattle.law.specs.Calls.{Result, result, done}
 use Rattle.law.specs.Trace.{Traced, Whole, Form, wholeRecords, fault, HasForm, alike, played, playedForm, replay}
+use Rattle.law.proofs.Links.{good-five}
 use Rattle.law.proofs.Calls.{leaves, done-same}
 use Rattle.law.proofs.Clauses.{state-yes, state-no}
 use Rattle.law.proofs.Complete.{complete}
 use Rattle.law.proofs.Worlds.{few-first}
 use Rattle.law.proofs.Held.{length-cells, stored-length}
 use Rattle.law.proofs.Laid.{when-yes, when-no}
-use Rattle.law.proofs.Layouts.{layoutFor}
+use Rattle.law.proofs.Layouts.{formFor, layoutFor}
 use Rattle.law.proofs.Spans.{when-pick}
 use Rattle.law.proofs.Traces.{asTraced, form-clean, form-faulty, form-records}
 
@@ -80,14 +81,14 @@ module _ (h : Sheet) (w : WellFormed h) where
     next-ready : Ready (after .state) (after .memory)
     unfolding exchanged
     next-ready =
-        let o = outcomeOf (sheetOctets h) (layoutFor h) (ready .st) (commandOf c) in
+        let o = outcomeOf (sheetOctets h) (layoutFor h) (ready .st) (commandOf (formFor (h .pdu)) c) in
         let one = some (ready .st .link) (ready .on) in
-        let there = outcome-on (sheetOctets h) (layoutFor h) (ready .st) (commandOf c) (h .l) (ready .facts) one in
+        let there = outcome-on (sheetOctets h) (layoutFor h) (ready .st) (commandOf (formFor (h .pdu)) c) (h .l) (ready .facts) one in
         let fit = ready .whole ∙ sym (length-cells (h .regions)) in
         record {
           st = o .next;
           record-of = sym (ap (λ (x : Result). x .state) is-done);
-          facts = outcome-valid (sheetOctets h) (layoutFor h) (ready .st) (commandOf c) (h .l) (ready .facts) one (omega (arith, few-first (h .tolerances) (w .tolerances)));
+          facts = outcome-valid (sheetOctets h) (layoutFor h) (ready .st) (commandOf (formFor (h .pdu)) c) (h .l) (ready .facts) one (omega (arith, few-first (h .tolerances) (w .tolerances)));
           on = λ z. let k : ⊥ = omega arith in k;
           whole = stored-length (fateOf h s m c .stores) (cells (h .regions)) m fit ∙ ready .whole;
         }
@@ -140,12 +141,12 @@ module _ (h : Sheet) (w : WellFormed h) where
       (playOf (sheetOctets h) (h .l) 0 s m (tracedOf (h .l) trace)))
       ≡ playedForm h s m form
   form-same trace s m ready short (wholeRecords ts) f =
-      let e = checked-short (h .l) trace short ∙ form-clean (h .l) (w .l) trace ts f in
+      let e = checked-short (h .l) trace short ∙ form-clean (h .l) (good-five (h .pdu) (h .l) (w .l)) trace ts f in
       ap leavesReplay (pick-same _ _ (ap (λ (x : Answer). x .number) e))
-      ∙ ap (λ (x : List machine.Traced). leavesReplay (playOf (sheetOctets h) (h .l) 0 s m x)) (form-records (h .l) (w .l) trace ts f)
+      ∙ ap (λ (x : List machine.Traced). leavesReplay (playOf (sheetOctets h) (h .l) 0 s m x)) (form-records (h .l) (good-five (h .pdu) (h .l) (w .l)) trace ts f)
       ∙ play-same ts 0 s m ready (f .0)
   form-same trace s m ready short (fault n place) f =
-      let q = form-faulty (h .l) (w .l) trace n place f in
+      let q = form-faulty (h .l) (good-five (h .pdu) (h .l) (w .l)) trace n place f in
       let e = checked-short (h .l) trace short ∙ q .0 in
       ap leavesReplay (pick-differ _ _ (λ z. q .1 (sym (ap (λ (x : Answer). x .number) e) ∙ z)))
       ∙ ap (λ (x : Answer). leavesReplay (replayed x s m)) e

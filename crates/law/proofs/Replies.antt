@@ -2,30 +2,36 @@
 use mathlib.Core.Bool.{Bool, true, false, _&&_, _||_}
 use mathlib.Core.Logic.{⊎-elim}
 use mathlib.Core.Path.{_≡_, refl, sym, ap, ap₂, _∙_}
-use mathlib.Core.List.{List, [], _∷_}
-use Prim.Native.Nat.{ℕ, _+_, _-_, _*_, _%_, _≤_, _<_}
+use mathlib.Core.List.{List, [], _∷_, _++_}
+use Prim.Native.Nat.{ℕ, _+_, _*_, _%_, _<_}
 use native.Mathlib.Omega.{arith}
 use borrow.Author.Tests.{ltb-true, eqb-true, ne-eqb}
 use lib.Dec.{eqb, ltb}
 use lib.ListN.{length, getD, replicate, length-replicate, getD-replicate}
 use lib.Seq.{ext-getD}
 use Rattle.octets.specs.Pick.{pick}
-use Rattle.octets.proofs.Cases.{eq-or-ne, lt-or-le}
+use Rattle.octets.proofs.Cases.{eq-or-ne}
 use Rattle.frame.specs.Body.{replyOf, Fitting}
-use Rattle.frame.proofs.Bodies.{body-behind}
-use Rattle.frame.proofs.Named.{command-named}
-use Rattle.frame.proofs.Replies.{whole, head-told, body-at}
-use Rattle.law.specs.Words.{when, piece, laid, over}
-use Rattle.law.specs.Sheet.{Sheet, allows}
-use Rattle.law.specs.Table.{Check, Row, table}
-use Rattle.law.specs.Exchange.{Fate, code, mn, identity, refused, checked, judged, fateOf, stateAfter, headFor, replyFor, tolerated, lost}
+use Rattle.frame.specs.Fields.{commandOf}
+use Rattle.frame.specs.Head.{rwdtOf, headOf}
+use Rattle.frame.specs.Places.{Sized}
+use Rattle.frame.proofs.Bodies.{laidAt}
+use Rattle.frame.proofs.Named.{named, command-named, is-enhanced, is-short}
+use Rattle.frame.proofs.Replies.{begunAt, begun-enhanced, begun-short, rwdtTold, lowTold, headTold, rwdt-is, head-is, headIn, whole, reply-at}
+use Rattle.law.specs.Words.{when, Piece, laid, over}
+use Rattle.law.specs.Sheet.{PduType, enhanced, short, Sheet, allows}
+use Rattle.law.specs.Table.{Check, Row, table, tableOf}
+use Rattle.law.specs.Exchange.{Fate, code, wdt, mn, identity, refused, checked, judged, fateOf, stateAfter, rwdtFor, lowStatus, headFor, replyFor, tolerated, lost}
 use Rattle.link.specs.Stored.{octetsOf}
 use Rattle.link.specs.Valid.{isCommunicationAlarm}
 use Rattle.link.specs.declared.state.LinkState.{LinkState}
 use Rattle.link.proofs.Facts.{Facts}
 use Rattle.machine.specs.declared.words.Command.{Command}
 use Rattle.machine.specs.declared.words.Outcome.{Outcome}
-use Rattle.law.proofs.Laid.{lies, lies-here, lies-past, over-length, over-at, picked}
+use Rattle.sheet.specs.declared.walk.Form.{Form}
+use Rattle.law.proofs.Codes.{wdt-same}
+use Rattle.law.proofs.Laid.{over-length, over-at, picked, laid-one, laid-two, laid-append}
+use Rattle.law.proofs.Layouts.{formFor}
 use Rattle.law.proofs.Rows.{Same}
 
 -- every alarm fits into a half octet
@@ -67,10 +73,15 @@ judged-small s code (r ∷ rs) e =
     let p = both (smallChecks (r .checks)) (smallRows rs) e in
     when-both Small (eqb code (r .code)) (checked-small s _ r (p .0)) (judged-small s code rs (p .1))
 
+small-table : (h : Sheet) (s m c : List ℕ) (pdu : PduType) → smallRows (tableOf h s m c pdu) ≡ true
+small-table h s m c enhanced = refl
+small-table h s m c short = refl
+
 pub fate-small : (h : Sheet) (s m c : List ℕ) → Small (fateOf h s m c)
 unfolding fateOf
 fate-small h s m c =
-    when-both Small _ (when-both Small _ {x = tolerated s} {y = lost} (let z : 0 < 16 = omega arith in z) (let z : 0 < 16 = omega arith in z)) (judged-small s (code c) (table h s m c) refl)
+    when-both Small _ (when-both Small _ {x = tolerated s} {y = lost} (let z : 0 < 16 = omega arith in z) (let z : 0 < 16 = omega arith in z))
+    (judged-small s (code c) (table h s m c) (small-table h s m c (h .pdu)))
 
 small-latch : (co : ℕ) → isCommunicationAlarm co ≡ true → co < 16
 unfolding isCommunicationAlarm
@@ -81,60 +92,77 @@ small-latch co e =
     let k = eqb-true co 12 q in let w : co < 16 = omega arith in w)
     (eq-or-ne co 0)
 
--- the reply, octet by octet: the head's four by the frame's laws, and behind them the row's pieces
-module _ (h : Sheet) (sheet : List ℕ) (st : LinkState) (m c : List ℕ) (o : Outcome) (f : Fate) (same : Same h sheet st m c o f) (small : f .alarm < 16)
-    (v : Facts (h .l) (allows h) (o .next)) (asked : length c ≡ h .l) (long : 8 ≤ h .l) (fits : Fitting (o .effect) (length c) (length m) (length sheet)) where
+-- the head of a state: the frame's four octets, RWDT among them or last, are the law's pieces
+module _ (h : Sheet) (c : List ℕ) (alarm : ℕ) (next : LinkState) where
   abbrev t : List ℕ
-  t = stateAfter (octetsOf st) (mn c) (f .changes)
+  t = octetsOf next
 
-  -- the head by a state record and an alarm
-  abbrev head : List ℕ → ℕ → List ℕ
-  head t alarm = headFor c alarm t
+  rwdt-same : rwdtTold (named (formFor (h .pdu)) (code c) c .wdt) next ≡ rwdtFor h c t
+  unfolding octetsOf
+  rwdt-same =
+      ap (λ (w : ℕ). rwdtTold w next) (wdt-same (h .pdu) (code c) c) ∙ picked (eqb (next .link) 3) (16 * next .watch .rsn + mn h c) 0
+
+  low-same : (x : ℕ) → lowTold x next ≡ lowStatus t + 64 * (x % 4)
+  unfolding octetsOf
+  low-same x =
+      let quiet = eqb (next .latches .command) 0 && eqb (next .latches .communication) 0 in
+      let none = eqb (next .watch .failures) 0 in
+      ap₂ (λ (a b : ℕ). 4 + a + b + 64 * (x % 4)) (picked quiet 0 1) (picked none 0 2)
+
+  -- what stands before the body
+  begins : (pdu : PduType) → rwdtTold (named (formFor pdu) (code c) c .wdt) next ≡ rwdtFor h c t → (k : ℕ)
+      → begunAt (formFor pdu) (headTold (formFor pdu) (code c) (named (formFor pdu) (code c) c .wdt) (named (formFor pdu) (code c) c .identity) alarm next)
+      (rwdtTold (named (formFor pdu) (code c) c .wdt) next) k
+      ≡ laid (headFor pdu h c alarm t) k 0
+  unfolding octetsOf
+  begins enhanced e k =
+      begun-enhanced _ _ k
+      ∙ ap₂ (λ (r low : ℕ). laidAt 0 (code c ∷ r ∷ low ∷ (alarm + 16 * next .latches .communication) ∷ []) k 0) e
+      (low-same _ ∙ ap (λ (x : ℕ). lowStatus t + 64 * (x % 4)) (is-enhanced _))
+      ∙ laid-one _ k 0
+  begins short e k =
+      let low : lowTold (named (formFor short) (code c) c .identity) next ≡ lowStatus t =
+      low-same _ ∙ ap (λ (x : ℕ). lowStatus t + 64 * (x % 4)) (is-short _) ∙ (let z : lowStatus t + 64 * (0 % 4) ≡ lowStatus t = omega arith in z) in
+      let high : 0 + 16 * next .latches .communication ≡ 16 * next .latches .communication = omega arith in
+      begun-short _ _ k
+      ∙ (λ i. laidAt 15 (e i ∷ []) k (laidAt 0 (code c ∷ alarm ∷ low i ∷ high i ∷ []) k 0))
+      ∙ laid-two _ _ k 0
+
+-- the reply, octet by octet: the row's pieces over the head's
+module _ (h : Sheet) (sheet : List ℕ) (st : LinkState) (m c : List ℕ) (o : Outcome) (f : Fate) (same : Same (h .pdu) h sheet st m c o f) (small : f .alarm < 16)
+    (v : Facts (h .l) (allows h) (o .next)) (asked : length c ≡ h .l) (sized : Sized (formFor (h .pdu)) (length c))
+    (fits : Fitting (formFor (h .pdu)) (o .effect) (length c) (length m) (length sheet)) where
+  abbrev form : Form
+  form = formFor (h .pdu)
+
+  abbrev after : List ℕ
+  after = stateAfter (octetsOf st) (mn h c) (f .changes)
 
   abbrev reply : List ℕ
-  reply = replyOf sheet m c o
+  reply = replyOf form sheet m c o
 
-  long-enough : 8 ≤ length c
-  long-enough = omega arith
-
-  in-head : (k : ℕ) → k < length (head (octetsOf (o .next)) (o .alarm)) → getD reply k 0 ≡ getD (head (octetsOf (o .next)) (o .alarm)) k 0
-  unfolding octetsOf
-  in-head k l =
+  begun-same : (k : ℕ) → begunAt form (headIn form sheet m c o sized fits) (rwdtOf (commandOf form c .wdt) (o .next)) k ≡ laid (headFor (h .pdu) h c (f .alarm) after) k 0
+  begun-same k =
+      let x = named form (code c) c in
       let rsn = v .rsn in
       let alarm = same .alarm in
-      let quiet = eqb (o .next .latches .command) 0 && eqb (o .next .latches .communication) 0 in
-      let none = eqb (o .next .watch .failures) 0 in
-      let high = o .alarm + 16 * o .next .latches .communication in
-      head-told sheet m c o long-enough fits (omega arith) (omega arith) (small-latch (o .next .latches .communication) (v .communication)) k l
-      ∙ ap (λ (x : Command). getD (x .code ∷ pick (eqb (o .next .link) 3) (16 * o .next .watch .rsn + x .wdt % 16) 0
-      ∷ (4 + pick quiet 0 1 + pick none 0 2 + 64 * (x .identity % 4)) ∷ high ∷ []) k 0) (command-named c)
-      ∙ ap₂ (λ (r b : ℕ). getD (code c ∷ r ∷ (4 + b + pick none 0 2 + 64 * identity c) ∷ high ∷ []) k 0)
-      (picked (eqb (o .next .link) 3) (16 * o .next .watch .rsn + mn c) 0) (picked quiet 0 1)
-      ∙ ap (λ (b : ℕ). getD (code c ∷ when (eqb (o .next .link) 3) (16 * o .next .watch .rsn + mn c) 0 ∷ (4 + when quiet 0 1 + b + 64 * identity c) ∷ high ∷ []) k 0)
-      (picked none 0 2)
+      let latch = small-latch (o .next .latches .communication) (v .communication) in
+      ap (λ (x : Command). begunAt form (headOf form (x .code) (x .wdt) (x .identity) (o .alarm) (o .next)) (rwdtOf (x .wdt) (o .next)) k) (command-named form c)
+      ∙ ap₂ (λ (l : List ℕ) (r : ℕ). begunAt form l r k)
+      (head-is (code c) (x .wdt) (x .identity) (o .alarm) (o .next) (omega arith) (omega arith) latch form)
+      (rwdt-is (code c) (x .wdt) (x .identity) (o .alarm) (o .next) (omega arith))
+      ∙ begins h c (o .alarm) (o .next) (h .pdu) (rwdt-same h c (o .alarm) (o .next)) k
+      ∙ ap₂ (λ (a : ℕ) (l : List ℕ). laid (headFor (h .pdu) h c a l) k 0) (same .alarm) (same .next)
 
-  head-is : head (octetsOf (o .next)) (o .alarm) ≡ head t (f .alarm)
-  head-is = ap₂ head (same .next) (same .alarm)
-
-  octet-same : (k : ℕ) → k < length c → getD reply k 0 ≡ laid (f .body) k (lies (piece 0 (head t (f .alarm))) k 0)
-  octet-same k u =
-      ⊎-elim (λ (a : k < length (head t (f .alarm))).
-      let x = getD (head t (f .alarm)) k 0 in
-      in-head k a ∙ ap (λ (l : List ℕ). getD l k 0) head-is ∙ sym (body-behind (o .effect) sheet m c k x a) ∙ same .body k x
-      ∙ ap (laid (f .body) k) (ap (λ (n : ℕ). getD (head t (f .alarm)) n 0) (let e : k ≡ k - 0 = omega arith in e)
-      ∙ sym (lies-here (piece 0 (head t (f .alarm))) k 0 (omega arith) (omega arith))))
-      (λ (a : length (head t (f .alarm)) ≤ k).
-      body-at sheet m c o long-enough fits k a u ∙ same .body k 0 ∙ ap (laid (f .body) k) (sym (lies-past (piece 0 (head t (f .alarm))) k 0 (omega arith))))
-      (lt-or-le k (length (head t (f .alarm))))
-
-  pub reply-same : reply ≡ replyFor h c (f .alarm) t (f .body)
-  unfolding replyFor laid
+  pub reply-same : reply ≡ replyFor h c (f .alarm) after (f .body)
+  unfolding replyFor
   reply-same =
-      let ps = piece 0 (head t (f .alarm)) ∷ f .body in
+      let head = headFor (h .pdu) h c (f .alarm) after in
+      let ps = head ++ f .body in
       let zeros = length-replicate {A = ℕ} (h .l) 0 in
-      let full = whole sheet m c o long-enough fits in
+      let full = whole form sheet m c o sized fits in
       let lies-over = over-length 0 ps (replicate (h .l) 0) in
       ext-getD 0 reply (over ps (replicate (h .l) 0)) (full ∙ asked ∙ sym zeros ∙ sym lies-over) (λ k u.
-      octet-same k (omega arith)
+      reply-at form sheet m c o sized fits k ∙ same .body k _ ∙ ap (laid (f .body) k) (begun-same k) ∙ sym (laid-append head (f .body) k 0)
       ∙ ap (λ (x : ℕ). laid ps k x) (sym (getD-replicate (h .l) k 0 0 (omega arith)))
       ∙ sym (over-at 0 ps (replicate (h .l) 0) k (omega arith) ∙ ap (λ (n : ℕ). laid ps n (getD (replicate (h .l) 0) k 0)) (let e : 0 + k ≡ k = omega arith in e)))

@@ -6,10 +6,10 @@ use mathlib.Core.List.{List, [], _∷_}
 use Prim.Native.Nat.{ℕ, suc, _-_, _≤_}
 use native.Mathlib.Nat.{le-refl}
 use native.Mathlib.Omega.{arith}
-use borrow.Author.Tests.{eqb-true, eqb-false, ltb-false, eq-eqb, not-false}
+use borrow.Author.Tests.{eqb-false, ltb-false, eq-eqb, not-false}
 use lib.ListN.{length, getD, drop}
 use Rattle.octets.proofs.Pick.{passed}
-use Rattle.sheet.specs.Kinds.{isLength, misplacedOf}
+use Rattle.sheet.specs.Kinds.{lengthFits, misplacedOf}
 use Rattle.sheet.specs.Reading.{recordOf}
 use Rattle.sheet.specs.Sound.{Sound, Standing, behind}
 use Rattle.sheet.specs.Walk.{none, placeOf, endedOf, walkOf, verdictOf}
@@ -20,6 +20,7 @@ use Rattle.sheet.specs.declared.walk.Layout.{Layout}
 use Rattle.sheet.specs.declared.walk.Verdict.{Verdict}
 use Rattle.sheet.specs.declared.walk.Verdict.the-variants.{Valid, Faulty}
 use Rattle.sheet.proofs.Judged.{bad-record}
+use Rattle.sheet.proofs.Onward.{link-begins}
 use Rattle.sheet.proofs.Steps.{start-sound}
 use Rattle.sheet.proofs.Valid.{same-layout}
 use Rattle.law.proofs.Layouts.{layoutFor}
@@ -53,7 +54,7 @@ reached s v h w =
 
 -- an end record is not the first
 pub end-later : (s rest : List ℕ) (so : Counts) (n : ℕ) (next : Counts) → Standing s rest so → recordOf s rest so ≡ Record n next → getD rest 0 0 ≡ 0
-    → (1 ≤ length rest) × (placeOf s rest ≡ behind so) × (isLength (getD s 1 0) ≡ true)
+    → (1 ≤ length rest) × (placeOf s rest ≡ behind so) × (lengthFits (getD s 0 0) (getD s 1 0) ≡ true)
 unfolding recordOf misplacedOf
 end-later s rest so n next st e k =
     let p₁ = passed _ bad-record e in
@@ -65,8 +66,7 @@ end-later s rest so n next st e k =
     (λ z.
     let t = eq-eqb (length rest) (length s) (omega (arith, z .0)) in
     let m = subst (λ (b : Bool). misplacedOf b (getD rest 0 0) so ≡ false) t (p₃ .0) in
-    let one = eqb-true (getD rest 0 0) 1 (not-false _ m) in
-    absurd (let w : ⊥ = omega arith in w))
+    absurd (link-begins (getD rest 0 0) (not-false _ m) k))
     (λ h. (omega arith, h .0, h .1))
     (st .sound .begun)
 

@@ -24,6 +24,7 @@ use Rattle.regions.specs.Region.{listed}
 use Rattle.sheet.specs.Entries.{parameterAt, itemAt, itemFrom, itemsOf, sought}
 use Rattle.sheet.specs.declared.entries.Parameter.{Parameter}
 use Rattle.sheet.specs.declared.entries.SoughtItem.{SoughtItem}
+use Rattle.law.proofs.Links.{good-five}
 use Rattle.law.proofs.Laid.{when-yes, when-no}
 use Rattle.law.proofs.Held.{length-cells, apart-good, reads-same, writes-same}
 use Rattle.law.proofs.World.{ItemSame, World, mapped-is}
@@ -111,7 +112,7 @@ world-of h w m e =
       parameters = sym (parameters-back (parameterAt s r) 0 p) ∙ ap (λ (x : Sheet). map asParameter (x .parameters)) back;
       items = λ n. subst (λ (l : List Ident). ItemSame (itemsOf s r p k) l s n) ids
           (items-same s r p 0 k n (subst (λ (l : List Ident). Every (λ (i : Ident). i .length ≤ 32) l) (sym ids) (sizes (h .items) (w .items))));
-      long = least (h .l) (w .l);
+      long = least (h .l) (good-five (h .pdu) (h .l) (w .l));
       few = few-first (h .tolerances) (w .tolerances);
       whole = whole;
       reads = λ a n q. reads-same (h .regions) apart m whole a n (sym (all-span mapped Mapped mapped-is (h .regions) a n) ∙ q);

@@ -55,8 +55,8 @@ turn h old s =
 -- far 0 for a built reply, shall be the first octet of the field that failed"; Table says what it is for alarm 10, and where it is 0
 abbrev pub done : Sheet → List ℕ → List ℕ → List ℕ → Fate → Result
 done h s m c f =
-    result 0 (f .place) (stateAfter s (mn c) (f .changes)) (stored (f .stores) (cells (h .regions)) m)
-    (replyFor h c (f .alarm) (stateAfter s (mn c) (f .changes)) (f .body))
+    result 0 (f .place) (stateAfter s (mn h c) (f .changes)) (stored (f .stores) (cells (h .regions)) m)
+    (replyFor h c (f .alarm) (stateAfter s (mn h c) (f .changes)) (f .body))
 
 -- "1: state record ..", "2: memory length not the sum of the regions", "3: command length not L", "4: reply length not L", "5: exchange while Disabled"; of
 -- the state s, the memory m, the command c and the reply r that are lent

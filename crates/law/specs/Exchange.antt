@@ -1,23 +1,28 @@
 -- "One exchange": what every exchange does around the table.
 use Prim.Native.Nat.{ℕ, _+_, _*_, _/_, _%_}
 use mathlib.Core.Bool.{Bool, not, _&&_}
-use mathlib.Core.List.{List, [], _∷_}
+use mathlib.Core.List.{List, [], _∷_, _++_}
 use lib.Dec.{eqb, ltb}
 use lib.ListN.{replicate}
 use Rattle.law.specs.Words.{when, oneOf, octet, Piece, piece, over}
-use Rattle.law.specs.Sheet.{Sheet, allows}
+use Rattle.law.specs.Sheet.{PduType, enhanced, short, Sheet, allows}
 use Rattle.law.specs.State.{link, mnKnown, lastMn, rsn, commandLatch, communicationLatch, failures}
 use Rattle.law.specs.Table.{Check, check, Row, table}
 
--- "Command: octet 0 code, octet 1 WDT (low half MN, high half SN), octets 2 and 3 control, ignored"; request 1: bits 6 and 7 of octet 2 are the identity
+-- "Command: octet 0 code, octet 1 WDT (low half MN, high half SN), octets 2 and 3 control, ignored"; request 1: bits 6 and 7 of octet 2 are the identity.
+-- Request 7: "code, 14 octets of body, WDT last"
 abbrev pub code : List ℕ → ℕ
 code c = octet c 0
 
-abbrev pub mn : List ℕ → ℕ
-mn c = octet c 1 % 16
+abbrev pub wdt : PduType → List ℕ → ℕ
+wdt enhanced c = octet c 1
+wdt short c = octet c 15
 
-abbrev pub sn : List ℕ → ℕ
-sn c = octet c 1 / 16
+abbrev pub mn : Sheet → List ℕ → ℕ
+mn h c = wdt (h .pdu) c % 16
+
+abbrev pub sn : Sheet → List ℕ → ℕ
+sn h c = wdt (h .pdu) c / 16
 
 abbrev pub identity : List ℕ → ℕ
 identity c = octet c 2 / 64 % 4
@@ -66,11 +71,11 @@ failing h s = when (ltb (failures s) (allows h)) (tolerated s) lost
 abbrev pub passing : Fate → Fate
 passing f = fate (f .alarm) (f .place) (piece 10 (0 ∷ []) ∷ f .changes) (f .body) (f .stores)
 
-abbrev pub missed : List ℕ → List ℕ → Bool
-missed s c = eqb (link s) 3 && (eqb (mnKnown s) 1 && not (eqb (mn c) ((lastMn s + 1) % 16) && eqb (sn c) (rsn s)))
+abbrev pub missed : Sheet → List ℕ → List ℕ → Bool
+missed h s c = eqb (link s) 3 && (eqb (mnKnown s) 1 && not (eqb (mn h c) ((lastMn s + 1) % 16) && eqb (sn h c) (rsn s)))
 
 unfoldable pub fateOf : Sheet → List ℕ → List ℕ → List ℕ → Fate
-fateOf h s m c = when (missed s c) (failing h s) (passing (judged s (code c) (table h s m c)))
+fateOf h s m c = when (missed h s c) (failing h s) (passing (judged s (code c) (table h s m c)))
 
 -- "An exchange that begins and ends in link 3 stores MN as known and adds 1 to RSN modulo 16, refused or not. .. On entry to link 3 MN is not known and
 -- RSN is 0; on leaving it those fields and dual become 0", and so does the count. `sent` is the command's MN
@@ -84,19 +89,23 @@ watched linkBefore linkAfter s sent =
 unfoldable pub stateAfter : List ℕ → ℕ → List Piece → List ℕ
 stateAfter s sent changes = over (watched (link s) (link (over changes s)) s sent) (over changes s)
 
--- "Reply: octet 0 the code again, octet 1 RWDT, octets 2 and 3 status, then body"; t is the state record afterwards
-abbrev pub headFor : List ℕ → ℕ → List ℕ → List ℕ
-headFor c alarm t =
-    -- "RWDT is 16 times the new RSN plus the command's MN if the link afterwards is 3, else 0."
-    let rwdt = when (eqb (link t) 3) (16 * rsn t + mn c) 0 in
-    -- "Status bit 0 is set if a latch is nonzero after the exchange; bit 2 is always set"; request 1: "Bits 6 and 7 of command octet 2 shall come back in
-    -- those bits of reply octet 2, in every built reply."
-    -- Request 9: in a tolerated failure "status bit 1 set"; behind any other exchange the count is 0.
-    let low = 4 + when (eqb (commandLatch t) 0 && eqb (communicationLatch t) 0) 0 1 + when (eqb (failures t) 0) 0 2 + 64 * identity c in
-    -- "bits 8 to 11 are this command's alarm, 0 if accepted; bits 12 to 15 the communication latch after the exchange; the rest 0"
-    let high = alarm + 16 * communicationLatch t in
-    code c ∷ rwdt ∷ low ∷ high ∷ []
+-- t is the state record afterwards. "RWDT is 16 times the new RSN plus the command's MN if the link afterwards is 3, else 0."
+abbrev pub rwdtFor : Sheet → List ℕ → List ℕ → ℕ
+rwdtFor h c t = when (eqb (link t) 3) (16 * rsn t + mn h c) 0
+
+-- "Status bit 0 is set if a latch is nonzero after the exchange; bit 2 is always set". Request 9: in a tolerated failure "status bit 1 set"; behind any other
+-- exchange the count is 0
+abbrev pub lowStatus : List ℕ → ℕ
+lowStatus t = 4 + when (eqb (commandLatch t) 0 && eqb (communicationLatch t) 0) 0 1 + when (eqb (failures t) 0) 0 2
+
+-- "Reply: octet 0 the code again, octet 1 RWDT, octets 2 and 3 status, then body": "bits 8 to 11 are this command's alarm, 0 if accepted; bits 12 to 15 the
+-- communication latch after the exchange; the rest 0"; request 1: "Bits 6 and 7 of command octet 2 shall come back in those bits of reply octet 2, in every
+-- built reply." Request 7: "in the reply code, alarm, two octets of status, 11 of body, RWDT last. .. The command alarm goes in octet 1, the communication
+-- latch in bits 12 to 15 of the status, bits 0 and 2 as before, the others 0; no identity is echoed", and bit 1 by request 9
+abbrev pub headFor : PduType → Sheet → List ℕ → ℕ → List ℕ → List Piece
+headFor enhanced h c alarm t = piece 0 (code c ∷ rwdtFor h c t ∷ (lowStatus t + 64 * identity c) ∷ (alarm + 16 * communicationLatch t) ∷ []) ∷ []
+headFor short h c alarm t = piece 0 (code c ∷ alarm ∷ lowStatus t ∷ 16 * communicationLatch t ∷ []) ∷ piece 15 (rwdtFor h c t ∷ []) ∷ []
 
 -- "Unnamed reply octets are zero"
 unfoldable pub replyFor : Sheet → List ℕ → ℕ → List ℕ → List Piece → List ℕ
-replyFor h c alarm t body = over (piece 0 (headFor c alarm t) ∷ body) (replicate (h .l) 0)
+replyFor h c alarm t body = over (headFor (h .pdu) h c alarm t ++ body) (replicate (h .l) 0)

@@ -5,7 +5,7 @@ use mathlib.Core.Logic.{_⊎_}
 use mathlib.Core.Path.{_≡_}
 use lib.ListN.{length, getD}
 use Rattle.law.specs.Words.{FaultUnless, NoMore}
-use Rattle.law.specs.Sheet.{Region, Parameter, Item, Sheet, GoodRegion, GoodItem, WellFormed, FiveLengths, Apart, NumbersRise, CodesRise, Spanned, FewRegions, FewParameters, FewItems, regionOctets, parameterOctets, itemOctets, toleranceOctets, written}
+use Rattle.law.specs.Sheet.{PduType, Region, Parameter, Item, Sheet, GoodRegion, GoodItem, WellFormed, GoodLength, linkKind, Apart, NumbersRise, CodesRise, Spanned, FewRegions, FewParameters, FewItems, regionOctets, parameterOctets, itemOctets, toleranceOctets, written}
 
 -- what stands before the record at fault: nothing, or records of which a sheet could consist
 pub data Sofar : Type 0 where
@@ -21,12 +21,12 @@ abbrev pub GoodSofar : Sofar → Type 0
 GoodSofar nothing = Unit {0}
 GoodSofar (records h) = WellFormed h
 
--- "The link record comes first and once; then regions, parameters, ID items, end": an end record first is out of place too. The tolerance comes "after the
--- ID items and at most once"
+-- "The link record comes first and once; then regions, parameters, ID items, end": an end record first is out of place too. Request 7: "kind 05 beside kind 01
+-- is 13". The tolerance comes "after the ID items and at most once"
 abbrev pub InPlace : Sofar → ℕ → Type 0
-InPlace nothing kind = kind ≡ 1
+InPlace nothing kind = (t : PduType) × (kind ≡ linkKind t)
 InPlace (records h) kind =
-    (kind ≡ 1 → ⊥)
+    ((t : PduType) → kind ≡ linkKind t → ⊥)
     × (kind ≡ 2 → length (h .parameters) ≡ 0)
     × (kind ≡ 2 → length (h .items) ≡ 0)
     × (kind ≡ 2 → length (h .tolerances) ≡ 0)
@@ -37,16 +37,17 @@ InPlace (records h) kind =
 
 -- the kinds that there are
 abbrev pub Kind : ℕ → Type 0
-Kind kind = (kind ≤ 4) ⊎ (kind ≡ 6)
+Kind kind = kind ≤ 6
 
--- "a body whose length the kind fixes": the octets of a record of kind 0 to 4 or 6, the kind octet among them
+-- "a body whose length the kind fixes": the octets of a record of kind 0 to 6, the kind octet among them
 abbrev pub recordLength : ℕ → ℕ
 recordLength zero = 1
 recordLength (suc zero) = 4
 recordLength (suc (suc zero)) = 10
 recordLength (suc (suc (suc zero))) = 8
 recordLength (suc (suc (suc (suc zero)))) = 35
-recordLength (suc (suc (suc (suc (suc n))))) = 2
+recordLength (suc (suc (suc (suc (suc zero))))) = 4
+recordLength (suc (suc (suc (suc (suc (suc n)))))) = 2
 
 -- "field range (14), too many records or too much memory (16), order or overlap (15), parameter span (17)"
 abbrev pub RegionFault : Sheet → Region → ℕ → Type 0
@@ -76,7 +77,7 @@ ToleranceFault n = FaultUnless 14 (n ≤ 3) NoMore
 
 -- the record that `rest` begins with, its numbers fitting their octets, and its fault
 abbrev pub BodyFault : Sofar → List ℕ → ℕ → Type 0
-BodyFault nothing rest f = FaultUnless 14 (FiveLengths (getD rest 1 0)) NoMore f
+BodyFault nothing rest f = FaultUnless 14 ((t : PduType) × (getD rest 0 0 ≡ linkKind t) × GoodLength t (getD rest 1 0)) NoMore f
 BodyFault (records h) rest f =
     ((r : Region) × (t : List ℕ) × (rest ≡ regionOctets r ++ t) × (r .start < 4294967296) × (r .length < 4294967296) × RegionFault h r f)
     ⊎ (((p : Parameter) × (t : List ℕ) × (rest ≡ parameterOctets p ++ t) × (p .number < 65536) × (p .address < 4294967296) × ParameterFault h p f)

@@ -48,7 +48,7 @@ abbrev pub TurnPromise : List ℕ → List ℕ → List ℕ → ℕ → List ℕ
 TurnPromise sheet o s a s′ = packedAfter a s′ ≡ afterCall (turnOf sheet o s)
 
 abbrev pub VersionPromise : ℕ → Type 0
-VersionPromise a = a ≡ 2
+VersionPromise a = a ≡ 3
 
 abbrev pub ExchangePromise : List ℕ → List ℕ → List ℕ → List ℕ → List ℕ → ℕ → List ℕ → List ℕ → List ℕ → Type 0
 ExchangePromise sheet s m c r a s′ m′ r′ = packedLeft a s′ m′ r′ ≡ leftByCall (exchangeOf sheet s m c r)

@@ -6,6 +6,11 @@ use mathlib.Core.Path.{_≡_}
 use lib.ListN.{length, drop}
 use Rattle.law.specs.Words.{Every, Some, InARow, sumOf, joined, inOctets, octet}
 
+-- the enhanced type of PDU, and, by request 7, "the 16-octet short type of source document 002, 4.3.1"
+pub data PduType : Type 0 where
+  enhanced : PduType
+  short : PduType
+
 pub record Region : Type 0 where
   pub start : ℕ
   pub length : ℕ
@@ -25,6 +30,7 @@ pub record Item : Type 0 where
 -- "The link record comes first and once; then regions, parameters, ID items, end": a sheet has the link record's fields, and a list of each kind. Request 9:
 -- "kind 06 with body of one octet 0 to 3, after the ID items and at most once, allows that many failures in a row, none without it"
 pub record Sheet : Type 0 where
+  pub pdu : PduType
   pub l : ℕ
   pub version : ℕ
   pub profile : ℕ
@@ -51,10 +57,15 @@ itemOctets i = 4 ∷ i .code ∷ i .length ∷ i .octets
 abbrev pub toleranceOctets : ℕ → List ℕ
 toleranceOctets n = 6 ∷ n ∷ []
 
--- "01 link: L (1), version (1), profile (1)"; all records of a sheet, and what stands behind them
+-- "01 link: L (1), version (1), profile (1)"; request 7: "A record of new kind 05, body as kind 01, L 16, selects it and stands in the link record's place"
+abbrev pub linkKind : PduType → ℕ
+linkKind enhanced = 1
+linkKind short = 5
+
+-- all records of a sheet, and what stands behind them
 abbrev pub written : Sheet → List ℕ → List ℕ
 written h rest =
-    (1 ∷ h .l ∷ h .version ∷ h .profile ∷ [])
+    (linkKind (h .pdu) ∷ h .l ∷ h .version ∷ h .profile ∷ [])
     ++ (joined regionOctets (h .regions)
     ++ (joined parameterOctets (h .parameters) ++ (joined itemOctets (h .items) ++ (joined toleranceOctets (h .tolerances) ++ rest))))
 
@@ -65,6 +76,11 @@ sheetOctets h = written h (0 ∷ [])
 -- "PDU length L of 8, 16, 32, 48 or 64"
 abbrev pub FiveLengths : ℕ → Type 0
 FiveLengths l = (l ≡ 8) ⊎ ((l ≡ 16) ⊎ ((l ≡ 32) ⊎ ((l ≡ 48) ⊎ (l ≡ 64))))
+
+-- of a link record of either kind
+abbrev pub GoodLength : PduType → ℕ → Type 0
+GoodLength enhanced l = FiveLengths l
+GoodLength short l = l ≡ 16
 
 abbrev pub IsOctet : ℕ → Type 0
 IsOctet x = x < 256
@@ -129,7 +145,7 @@ FewItems is = length is ≤ 32
 
 -- "2,048 octets of sheet" follow: these are 1,959 at most. A sheet may have no region, no parameter and no ID item
 pub record WellFormed (h : Sheet) : Type 0 where
-  pub l : FiveLengths (h .l)
+  pub l : GoodLength (h .pdu) (h .l)
   pub version : IsOctet (h .version)
   pub profile : IsOctet (h .profile)
   pub regions : Every GoodRegion (h .regions)

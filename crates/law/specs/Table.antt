@@ -1,11 +1,11 @@
--- "One exchange": the table, a row for each code.
+-- "One exchange": the tables of both types, a row for each code.
 use Prim.Native.Nat.{ℕ, _+_, _-_, _*_}
 use mathlib.Core.Bool.{Bool, _&&_}
 use mathlib.Core.List.{List, [], _∷_, map}
 use lib.Dec.{eqb, leb}
 use lib.ListN.{take, drop}
 use Rattle.law.specs.Words.{when, implies, oneOf, numberAt, octet, bit, Piece, piece}
-use Rattle.law.specs.Sheet.{Parameter, Item, Sheet}
+use Rattle.law.specs.Sheet.{PduType, enhanced, short, Parameter, Item, Sheet}
 use Rattle.law.specs.State.{link, commandLatch, communicationLatch}
 use Rattle.law.specs.Memory.{Cell, cells, mapped, readable, writable, hasAll, hasBefore, held}
 
@@ -67,18 +67,46 @@ module _ (h : Sheet) (s m c : List ℕ) where
   abbrev pub parameter : Parameter
   parameter = parameterOf (h .parameters) number
 
-  -- 01 and 02: "4-5 number in sheet; 6 size equal to its size and at most L - 8", then "Rights over the whole span: alarm 10". Document 01 asks "span
-  -- mapped" between the two; request 8 takes that out, since "fault 17 ensures it"
-  abbrev pub parameterChecks : (ℕ → Bool) → List Check
-  parameterChecks right =
+  -- 01 and 02: "4-5 number in sheet; 6 size equal to its size and at most L - 8", which is `most`, then "Rights over the whole span: alarm 10". Document 01
+  -- asks "span mapped" between the two; request 8 takes that out, since "fault 17 ensures it"
+  abbrev pub parameterChecks : ℕ → (ℕ → Bool) → List Check
+  parameterChecks most right =
       check (oneOf number (map (λ (p : Parameter). p .number) (h .parameters))) 9 4
       ∷ check (eqb (octet c 6) (parameter .size)) 9 6
-      ∷ check (leb (octet c 6) (h .l - 8)) 9 6
+      ∷ check (leb (octet c 6) most) 9 6
       ∷ rightsCheck right (cells (h .regions)) (parameter .address) (parameter .size)
       ∷ []
 
   abbrev pub item : Item
   item = itemOf (h .items) (octet c 4)
+
+  -- 03: "4 code in sheet; 5 offset; 6-7 size at least 1, offset + size within the item, size at most L - 8"
+  abbrev pub itemChecks : ℕ → ℕ → List Check
+  itemChecks size most =
+      check (oneOf (octet c 4) (map (λ (i : Item). i .code) (h .items))) 9 4
+      ∷ check (leb 1 size) 9 6
+      ∷ check (leb (octet c 5 + size) (item .length)) 9 6
+      ∷ check (leb size most) 9 6
+      ∷ []
+
+  abbrev pub itemPart : ℕ → List ℕ
+  itemPart size = take size (drop (octet c 5) (item .octets))
+
+  -- 0E: "4 version of the sheet; 5 com_mod; 6 com_time at least 1 ..", and "com_time is at least 2 with transfer 1"; what else a type asks comes behind
+  abbrev pub connectChecks : List Check → List Check
+  connectChecks more =
+      check (eqb (octet c 4) (h .version)) 9 4
+      ∷ check (comMod (octet c 5)) 9 5
+      ∷ check (leb 1 (octet c 6) && implies (bit (octet c 5) 2) (leb 2 (octet c 6))) 9 6
+      ∷ more
+
+  -- "com_time and dual set; link 3 if bit 1 of com_mod, else 2". With such a com_mod, transfer is 1 where bit 2 is set
+  abbrev pub connects : List Piece
+  connects = piece 1 (when (bit (octet c 5) 1) 3 2 ∷ []) ∷ piece 3 (when (bit (octet c 5) 2) 1 0 ∷ []) ∷ piece 4 (octet c 6 ∷ []) ∷ []
+
+  -- an ID item's size in the short type
+  abbrev pub shortSize : ℕ
+  shortSize = octet c 6
 
   -- "6-7 count", or an ID item's size; "8-11 address"
   abbrev pub count : ℕ
@@ -105,23 +133,17 @@ module _ (h : Sheet) (s m c : List ℕ) where
   -- "Disconnected allows NOP, CONNECT, DISCONNECT. CONNECT is allowed nowhere else. SYNC_SET needs link 2. All others are allowed in links 2 and 3."
   -- "Not built: .. CONFIG, the PPRM commands": 002's codes 04, 1B and 1C have no row, and are unknown. "unnamed command octets ignored"
   -- Each row: code, links, checks; what changes in the state record, the body, what is stored by addresses
-  abbrev pub table : List Row
-  table =
+  abbrev pub enhancedTable : List Row
+  enhancedTable =
       -- NOP
       row 0x00 (1 ∷ 2 ∷ 3 ∷ []) [] [] [] []
       -- PRM_RD, PRM_WR: "octets 4 to 6 again; from 8 the octets read or written"
-      ∷ row 0x01 (2 ∷ 3 ∷ []) (parameterChecks readable)
+      ∷ row 0x01 (2 ∷ 3 ∷ []) (parameterChecks (h .l - 8) readable)
       [] (again c 4 6 ∷ piece 8 (held (cells (h .regions)) m (parameter .address) (parameter .size)) ∷ []) []
-      ∷ row 0x02 (2 ∷ 3 ∷ []) (parameterChecks (writable (link s)))
+      ∷ row 0x02 (2 ∷ 3 ∷ []) (parameterChecks (h .l - 8) (writable (link s)))
       [] (again c 4 6 ∷ piece 8 (take (parameter .size) (drop 8 c)) ∷ []) (piece (parameter .address) (take (parameter .size) (drop 8 c)) ∷ [])
-      -- ID_RD: "4 code in sheet; 5 offset; 6-7 size at least 1, offset + size within the item, size at most L - 8"; "4 to 7 again, data from 8"
-      ∷ row 0x03 (2 ∷ 3 ∷ [])
-      (check (oneOf (octet c 4) (map (λ (i : Item). i .code) (h .items))) 9 4
-      ∷ check (leb 1 count) 9 6
-      ∷ check (leb (octet c 5 + count) (item .length)) 9 6
-      ∷ check (leb count (h .l - 8)) 9 6
-      ∷ [])
-      [] (again c 4 7 ∷ piece 8 (take count (drop (octet c 5) (item .octets))) ∷ []) []
+      -- ID_RD: "4 to 7 again, data from 8"
+      ∷ row 0x03 (2 ∷ 3 ∷ []) (itemChecks count (h .l - 8)) [] (again c 4 7 ∷ piece 8 (itemPart count) ∷ []) []
       -- ALM_RD: "L at least 16; 4-5 zero"; "old command latch at 8, old communication latch at 9"
       ∷ row 0x05 (2 ∷ 3 ∷ []) (check (leb 16 (h .l)) 9 0 ∷ check (eqb (numberAt c 4 2) 0) 9 4 ∷ [])
       [] (piece 8 (commandLatch s ∷ communicationLatch s ∷ []) ∷ []) []
@@ -129,15 +151,8 @@ module _ (h : Sheet) (s m c : List ℕ) where
       ∷ row 0x06 (2 ∷ 3 ∷ []) (check (eqb (numberAt c 4 2) 0) 9 4 ∷ []) (piece 8 (0 ∷ []) ∷ piece 9 (0 ∷ []) ∷ []) [] []
       -- SYNC_SET: "link 3, single transfer"
       ∷ row 0x0D (2 ∷ []) [] (piece 1 (3 ∷ []) ∷ piece 3 (0 ∷ []) ∷ []) [] []
-      -- CONNECT: "4 version of the sheet; 5 com_mod; 6 com_time at least 1; 7 profile of the sheet"; "com_time is at least 2 with transfer 1";
-      -- "com_time and dual set; link 3 if bit 1 of com_mod, else 2"; "4 to 7 again". With such a com_mod, transfer is 1 where bit 2 is set
-      ∷ row 0x0E (1 ∷ [])
-      (check (eqb (octet c 4) (h .version)) 9 4
-      ∷ check (comMod (octet c 5)) 9 5
-      ∷ check (leb 1 (octet c 6) && implies (bit (octet c 5) 2) (leb 2 (octet c 6))) 9 6
-      ∷ check (eqb (octet c 7) (h .profile)) 9 7
-      ∷ [])
-      (piece 1 (when (bit (octet c 5) 1) 3 2 ∷ []) ∷ piece 3 (when (bit (octet c 5) 2) 1 0 ∷ []) ∷ piece 4 (octet c 6 ∷ []) ∷ []) (again c 4 7 ∷ []) []
+      -- CONNECT: "7 profile of the sheet"; "4 to 7 again"
+      ∷ row 0x0E (1 ∷ []) (connectChecks (check (eqb (octet c 7) (h .profile)) 9 7 ∷ [])) connects (again c 4 7 ∷ []) []
       -- DISCONNECT: "link 1, com_time 0, latches kept"
       ∷ row 0x0F (1 ∷ 2 ∷ 3 ∷ []) [] (piece 1 (1 ∷ []) ∷ piece 4 (0 ∷ []) ∷ []) [] []
       -- MEM_RD, MEM_WR: "5 to 11 again, the n octets from 12"
@@ -146,3 +161,36 @@ module _ (h : Sheet) (s m c : List ℕ) where
       ∷ row 0x1E (2 ∷ 3 ∷ []) (memoryChecks (writable (link s)))
       [] (again c 5 11 ∷ piece 12 (take n (drop 12 c)) ∷ []) (piece address (take n (drop 12 c)) ∷ [])
       ∷ []
+
+  -- request 7, the short type: "without MEM_RD and MEM_WR"; "Fields stand as there", in 002, 4.3.1, behind three reserve octets, "less reserve octets where a
+  -- body sums too long; one not there isn't checked". Data stands from 7 on and ends before RWDT, so that it has 8 octets at most; effects are as above
+  abbrev pub shortTable : List Row
+  shortTable =
+      -- NOP (4.3.1.1)
+      row 0x00 (1 ∷ 2 ∷ 3 ∷ []) [] [] [] []
+      -- PRM_RD, PRM_WR (4.3.1.2, 4.3.1.3): 4-5 no, 6 size, data from 7
+      ∷ row 0x01 (2 ∷ 3 ∷ []) (parameterChecks 8 readable)
+      [] (again c 4 6 ∷ piece 7 (held (cells (h .regions)) m (parameter .address) (parameter .size)) ∷ []) []
+      ∷ row 0x02 (2 ∷ 3 ∷ []) (parameterChecks 8 (writable (link s)))
+      [] (again c 4 6 ∷ piece 7 (take (parameter .size) (drop 7 c)) ∷ []) (piece (parameter .address) (take (parameter .size) (drop 7 c)) ∷ [])
+      -- ID_RD (4.3.1.4): 4 code, 5 offset, 6 size, of one octet, data from 7
+      ∷ row 0x03 (2 ∷ 3 ∷ []) (itemChecks shortSize 8) [] (again c 4 6 ∷ piece 7 (itemPart shortSize) ∷ []) []
+      -- ALM_RD (4.3.1.6): 4 mode, of one octet; "Of the ALM_RD reply's two alm_data fields the first is the mode, the second begins with both latches,
+      -- command first": the mode, at 4, is zero, and so is what is unnamed there
+      ∷ row 0x05 (2 ∷ 3 ∷ []) (check (eqb (octet c 4) 0) 9 4 ∷ []) [] (piece 5 (commandLatch s ∷ communicationLatch s ∷ []) ∷ []) []
+      -- ALM_CLR (4.3.1.7): 4 mode
+      ∷ row 0x06 (2 ∷ 3 ∷ []) (check (eqb (octet c 4) 0) 9 4 ∷ []) (piece 8 (0 ∷ []) ∷ piece 9 (0 ∷ []) ∷ []) [] []
+      -- SYNC_SET (4.3.1.8)
+      ∷ row 0x0D (2 ∷ []) [] (piece 1 (3 ∷ []) ∷ piece 3 (0 ∷ []) ∷ []) [] []
+      -- CONNECT (4.3.1.9, whose page our copy of 002 lacks; 4.3.3.9 says what it has): 4 version, 5 com_mod, 6 com_time, and no profile
+      ∷ row 0x0E (1 ∷ []) (connectChecks []) connects (again c 4 6 ∷ []) []
+      -- DISCONNECT (4.3.1.10)
+      ∷ row 0x0F (1 ∷ 2 ∷ 3 ∷ []) [] (piece 1 (1 ∷ []) ∷ piece 4 (0 ∷ []) ∷ []) [] []
+      ∷ []
+
+  abbrev pub tableOf : PduType → List Row
+  tableOf enhanced = enhancedTable
+  tableOf short = shortTable
+
+  abbrev pub table : List Row
+  table = tableOf (h .pdu)
