@@ -21,7 +21,7 @@ use Rattle.law.proofs.Clauses.{valid-true}
 use Rattle.law.proofs.Laid.{when-yes, when-no, over-at, over-length}
 use Rattle.slave.specs.Exchange.{Left, exchangeOf}
 use Rattle.demands.specs.Answered.{Answered, toleratedIn}
-use Rattle.demands.proofs.Done.{least-length, answered-done, seen-tolerated}
+use Rattle.demands.proofs.Done.{answered-done, seen-tolerated}
 use Rattle.demands.proofs.Fates.{fate-missed, fate-kept, row-counts}
 
 -- of the watchdog's fields the count is set on leaving link 3 alone
@@ -58,32 +58,32 @@ module _ (h : Sheet) (sheet s m c r : List ℕ) (a : Answered h sheet s m c r) w
   eleven : length s ≡ 11
   eleven = valid-true h s (a .valid) .0
 
-  pub state-is : (f : Fate) → fateOf h s m c ≡ f → x .state ≡ stateAfter s (mn c) (f .changes)
-  state-is f e = ap (λ (l : Left). l .state) (answered-done h sheet s m c r a) ∙ ap (λ (g : Fate). stateAfter s (mn c) (g .changes)) e
+  pub state-is : (f : Fate) → fateOf h s m c ≡ f → x .state ≡ stateAfter s (mn h c) (f .changes)
+  state-is f e = ap (λ (l : Left). l .state) (answered-done h sheet s m c r a) ∙ ap (λ (g : Fate). stateAfter s (mn h c) (g .changes)) e
 
   pub told-by-count : toleratedIn (x .reply) ≡ not (eqb (failures (x .state)) 0)
   told-by-count =
-      ap (λ (l : Left). toleratedIn (l .reply)) (answered-done h sheet s m c r a) ∙ seen-tolerated h s m c (least-length (h .l) (a .good .l))
+      ap (λ (l : Left). toleratedIn (l .reply)) (answered-done h sheet s m c r a) ∙ seen-tolerated h s m c (a .good .l)
       ∙ sym (ap (λ (l : Left). not (eqb (failures (l .state)) 0)) (answered-done h sheet s m c r a))
 
-  pub passed-count : missed s c ≡ false → failures (x .state) ≡ 0
+  pub passed-count : missed h s c ≡ false → failures (x .state) ≡ 0
   unfolding laid when
   passed-count go =
       let f = passing (judged s (code c) (table h s m c)) in
-      ap failures (state-is f (fate-kept h s m c go)) ∙ count-after s (mn c) (f .changes) eleven
+      ap failures (state-is f (fate-kept h s m c go)) ∙ count-after s (mn h c) (f .changes) eleven
       ∙ both-zero (eqb (link s) 3) (eqb (link (over (f .changes) s)) 3) (row-counts h s m c 0)
 
-  pub passed-shown : missed s c ≡ false → toleratedIn (x .reply) ≡ false
+  pub passed-shown : missed h s c ≡ false → toleratedIn (x .reply) ≡ false
   passed-shown go = told-by-count ∙ ap (λ (n : ℕ). not (eqb n 0)) (passed-count go)
 
   -- check 1 fails in link 3 alone
-  pub in-three : missed s c ≡ true → link s ≡ 3
+  pub in-three : missed h s c ≡ true → link s ≡ 3
   in-three e = eqb-true (link s) 3 (and-eq-true-iff (eqb (link s) 3) _ .0 e .0)
 
-  pub failing-yes : missed s c ≡ true → ltb (failures s) (allows h) ≡ true → fateOf h s m c ≡ tolerated s
+  pub failing-yes : missed h s c ≡ true → ltb (failures s) (allows h) ≡ true → fateOf h s m c ≡ tolerated s
   failing-yes e l = fate-missed h s m c e ∙ when-yes _ _ l
 
-  pub failing-no : missed s c ≡ true → ltb (failures s) (allows h) ≡ false → fateOf h s m c ≡ lost
+  pub failing-no : missed h s c ≡ true → ltb (failures s) (allows h) ≡ false → fateOf h s m c ≡ lost
   failing-no e l = fate-missed h s m c e ∙ when-no _ _ l
 
   -- a tolerated failure changes the count alone, before the watchdog's fields
@@ -91,14 +91,14 @@ module _ (h : Sheet) (sheet s m c r : List ℕ) (a : Answered h sheet s m c r) w
   unfolding laid when
   same-link = let n = eleven in over-at 0 (tolerated s .changes) s 1 (omega arith)
 
-  pub tolerated-count : missed s c ≡ true → ltb (failures s) (allows h) ≡ true → failures (x .state) ≡ failures s + 1
+  pub tolerated-count : missed h s c ≡ true → ltb (failures s) (allows h) ≡ true → failures (x .state) ≡ failures s + 1
   unfolding laid when
   tolerated-count e l =
       let three = in-three e in
-      ap failures (state-is (tolerated s) (failing-yes e l)) ∙ count-after s (mn c) (tolerated s .changes) eleven
+      ap failures (state-is (tolerated s) (failing-yes e l)) ∙ count-after s (mn h c) (tolerated s .changes) eleven
       ∙ when-yes _ _ (eq-eqb (link s) 3 three) ∙ when-yes _ _ (eq-eqb _ 3 (same-link ∙ three))
 
-  pub tolerated-shown : missed s c ≡ true → ltb (failures s) (allows h) ≡ true → toleratedIn (x .reply) ≡ true
+  pub tolerated-shown : missed h s c ≡ true → ltb (failures s) (allows h) ≡ true → toleratedIn (x .reply) ≡ true
   tolerated-shown e l =
       told-by-count ∙ ap not (ap (λ (n : ℕ). eqb n 0) (tolerated-count e l) ∙ ne-eqb (failures s + 1) 0 (λ z. let w : ⊥ = omega arith in w))
 
@@ -107,7 +107,7 @@ module _ (h : Sheet) (sheet s m c r : List ℕ) (a : Answered h sheet s m c r) w
   unfolding laid when
   lost-away = let n = eleven in over-at 0 (lost .changes) s 1 (omega arith)
 
-  pub lost-count : missed s c ≡ true → ltb (failures s) (allows h) ≡ false → failures (x .state) ≡ 0
+  pub lost-count : missed h s c ≡ true → ltb (failures s) (allows h) ≡ false → failures (x .state) ≡ 0
   lost-count e l =
-      ap failures (state-is lost (failing-no e l)) ∙ count-after s (mn c) (lost .changes) eleven
+      ap failures (state-is lost (failing-no e l)) ∙ count-after s (mn h c) (lost .changes) eleven
       ∙ when-yes _ _ (eq-eqb (link s) 3 (in-three e)) ∙ when-no _ _ (ap (λ (k : ℕ). eqb k 3) lost-away)

@@ -19,7 +19,7 @@ use Rattle.law.proofs.Clauses.{valid-true}
 use Rattle.slave.specs.Exchange.{Left, exchangeOf}
 use Rattle.demands.specs.Accepted.{accepted, Executed, AcceptanceIsExact, RightsOverWholeSpan}
 use Rattle.demands.specs.Answered.{Answered, alarmIn}
-use Rattle.demands.proofs.Done.{least-length, answered-done, seen-alarm, seen-link}
+use Rattle.demands.proofs.Done.{answered-done, seen-alarm, seen-link}
 use Rattle.demands.proofs.Counts.{passed-shown, tolerated-shown, failing-no}
 use Rattle.demands.proofs.Fates.{fate-kept, row-stays}
 
@@ -30,51 +30,48 @@ module _ (h : Sheet) (sheet s m c r : List ℕ) (a : Answered h sheet s m c r) w
   abbrev row : Fate
   row = judged s (code c) (table h s m c)
 
-  long : 8 ≤ h .l
-  long = least-length (h .l) (a .good .l)
-
   ten : 2 ≤ length s
   ten = let e = valid-true h s (a .valid) .0 in omega arith
 
   -- the alarm and the link that a host sees
-  alarm-is : (f : Fate) → fateOf h s m c ≡ f → alarmIn (x .reply) ≡ f .alarm
-  alarm-is f e = ap (λ (l : Left). alarmIn (l .reply)) (answered-done h sheet s m c r a) ∙ seen-alarm h s m c long ∙ ap (λ (g : Fate). g .alarm) e
+  alarm-is : (f : Fate) → fateOf h s m c ≡ f → alarmIn h (x .reply) ≡ f .alarm
+  alarm-is f e = ap (λ (l : Left). alarmIn h (l .reply)) (answered-done h sheet s m c r a) ∙ seen-alarm h s m c (a .good .l) ∙ ap (λ (g : Fate). g .alarm) e
 
   pub link-is : (f : Fate) → fateOf h s m c ≡ f → link (x .state) ≡ laid (f .changes) 1 (link s)
   link-is f e =
-      ap (λ (l : Left). link (l .state)) (answered-done h sheet s m c r a) ∙ seen-link h s m c long ten ∙ ap (λ (g : Fate). laid (g .changes) 1 (link s)) e
+      ap (λ (l : Left). link (l .state)) (answered-done h sheet s m c r a) ∙ seen-link h s m c (a .good .l) ten ∙ ap (λ (g : Fate). laid (g .changes) 1 (link s)) e
 
   -- the count stands behind the link
   pub kept-link : (f : Fate) → laid (passing f .changes) 1 (link s) ≡ laid (f .changes) 1 (link s)
   unfolding laid when
   kept-link f = refl
 
-  to : accepted h s m c ≡ true → Executed s x
+  to : accepted h s m c ≡ true → Executed h s x
   to e =
-      let p = and-eq-true-iff (not (missed s c)) (eqb (row .alarm) 0) .0 e in
-      let k = fate-kept h s m c (not-true (missed s c) (p .0)) in
+      let p = and-eq-true-iff (not (missed h s c)) (eqb (row .alarm) 0) .0 e in
+      let k = fate-kept h s m c (not-true (missed h s c) (p .0)) in
       record {
         no-alarm = alarm-is (passing row) k ∙ eqb-true (row .alarm) 0 (p .1);
         not-lost = λ three two. row-stays h s m c three (sym (kept-link row) ∙ sym (link-is (passing row) k) ∙ two);
-        not-tolerated = passed-shown h sheet s m c r a (not-true (missed s c) (p .0));
+        not-tolerated = passed-shown h sheet s m c r a (not-true (missed h s c) (p .0));
       }
 
   pub lost-link : (n : ℕ) → laid (lost .changes) 1 n ≡ 2
   unfolding laid when
   lost-link n = refl
 
-  from : Executed s x → accepted h s m c ≡ true
+  from : Executed h s x → accepted h s m c ≡ true
   from e =
       ⊎-elim
-      (λ (t : missed s c ≡ true).
+      (λ (t : missed h s c ≡ true).
       let three = eqb-true (link s) 3 (and-eq-true-iff (eqb (link s) 3) _ .0 t .0) in
       ⊎-elim
       (λ (l : ltb (failures s) (allows h) ≡ true). absurd (true≢false (sym (tolerated-shown h sheet s m c r a t l) ∙ e .not-tolerated)))
       (λ (l : ltb (failures s) (allows h) ≡ false). absurd (e .not-lost three (link-is lost (failing-no h sheet s m c r a t l) ∙ lost-link (link s))))
       (decided (ltb (failures s) (allows h))))
-      (λ (t : missed s c ≡ false).
+      (λ (t : missed h s c ≡ false).
       ap₂ _&&_ (ap not t) (eq-eqb (row .alarm) 0 (sym (alarm-is (passing row) (fate-kept h s m c t)) ∙ e .no-alarm)))
-      (decided (missed s c))
+      (decided (missed h s c))
 
 pub acceptance-is-exact : AcceptanceIsExact
 acceptance-is-exact h sheet s m c r a = (to h sheet s m c r a, from h sheet s m c r a)

@@ -3,22 +3,20 @@
 --     fate-by            the same with a lost cycle, tolerated or not
 --     fate-refused       a fate without acceptance is a lost cycle or a refusal
 --     accepted-fate      and one with it is the row's
---     fate-head, fate-silent, fate-stays, fate-small, fate-writes    what bodies, refusals, links, alarms and stored octets have
+--     in-both            what both types' tables have, a sheet's has
+--     row-stays, row-counts, fate-small    what links, counts and alarms have
 use mathlib.Core.Bool.{Bool, true, false, _&&_, _||_}
-use mathlib.Core.Logic.{_⊎_, inl, inr}
 use mathlib.Core.Path.{_≡_, refl, sym, _∙_}
 use mathlib.Core.List.{List, [], _∷_}
-use Prim.Native.Nat.{ℕ, _+_, _-_, _≤_, _<_}
+use Prim.Native.Nat.{ℕ, _≤_, _<_}
 use native.Mathlib.Omega.{arith}
 use borrow.Author.Tests.{ltb-true, leb-true, eqb-true}
 use lib.Dec.{eqb, leb, ltb}
-use lib.ListN.{length, take, drop}
-use Rattle.law.specs.Words.{when, implies, Every, oneOf, Piece, piece, laid}
-use Rattle.law.specs.Sheet.{Sheet, allows}
+use Rattle.law.specs.Words.{when, implies, Every, oneOf, piece, laid}
+use Rattle.law.specs.Sheet.{PduType, enhanced, short, Sheet, allows}
 use Rattle.law.specs.State.{link, commandLatch, failures}
-use Rattle.law.specs.Memory.{cells, writable, hasAll}
-use Rattle.law.specs.Table.{Check, check, Row, table, parameter, address, n}
-use Rattle.law.specs.Exchange.{Fate, fate, code, lost, tolerated, failing, passing, missed, refused, checked, judged, headFor, fateOf}
+use Rattle.law.specs.Table.{Check, check, Row, enhancedTable, shortTable, tableOf, table}
+use Rattle.law.specs.Exchange.{Fate, fate, code, lost, tolerated, failing, passing, missed, refused, checked, judged, fateOf}
 use Rattle.law.proofs.Laid.{when-yes, when-no}
 use Rattle.demands.specs.Places.{Holds}
 
@@ -96,19 +94,24 @@ module _ (s : List ℕ) (P : Fate → Type 0) (not-done : (a place : ℕ) → Na
   pub judged-by : (code : ℕ) (rs : List Row) → namedRows rs ≡ true → Every Done rs → P (judged s code rs)
   judged-by code rs e all = judged-in code rs e (any-code code rs all)
 
--- how many octets the law's head has
-abbrev pub headSize : ℕ
-headSize = length (headFor [] 0 [])
+-- what holds of both types' tables holds of a sheet's
+pub by-type : (h : Sheet) (s m c : List ℕ) (P : PduType → List Row → Type 0) → P enhanced (enhancedTable h s m c) → P short (shortTable h s m c)
+    → (pdu : PduType) → P pdu (tableOf h s m c pdu)
+by-type h s m c P p q enhanced = p
+by-type h s m c P p q short = q
+
+pub in-both : (h : Sheet) (s m c : List ℕ) (P : List Row → Type 0) → P (enhancedTable h s m c) → P (shortTable h s m c) → P (table h s m c)
+in-both h s m c P p q = by-type h s m c (λ pdu rs. P rs) p q (h .pdu)
 
 module _ (h : Sheet) (s m c : List ℕ) where
   pub named : namedRows (table h s m c) ≡ true
-  named = refl
+  named = in-both h s m c (λ rs. namedRows rs ≡ true) refl refl
 
   pub fate-by : (P : Fate → Type 0) → P lost → P (tolerated s) → ((a place : ℕ) → Named a place → P (passing (refused s a place)))
       → Every (λ (r : Row). oneOf (link s) (r .links) ≡ true → Every Holds (r .checks) → P (passing (doneRow r))) (table h s m c) → P (fateOf h s m c)
   unfolding fateOf
   fate-by P p q r all =
-      when-cases P (missed s c) (λ e. when-cases P (ltb (failures s) (allows h)) (λ f. q) (λ f. p)) (λ e. judged-by s (λ f. P (passing f)) r (code c) (table h s m c) named all)
+      when-cases P (missed h s c) (λ e. when-cases P (ltb (failures s) (allows h)) (λ f. q) (λ f. p)) (λ e. judged-by s (λ f. P (passing f)) r (code c) (table h s m c) named all)
 
   abbrev row : Fate
   row = judged s (code c) (table h s m c)
@@ -119,138 +122,31 @@ module _ (h : Sheet) (s m c : List ℕ) where
   row-refused =
       judged-by s (λ f. (f .alarm ≡ 0 → ⊥) → (1 ≤ f .alarm) × (f ≡ refused s (f .alarm) (f .place)))
       (λ a place w z. (w .some, refl)) (code c) (table h s m c) named
-      (u, (u, (u, (u, (u, (u, (u, (u, (u, (u, (u, tt)))))))))))
+      (in-both h s m c (Every _) (u, (u, (u, (u, (u, (u, (u, (u, (u, (u, (u, tt))))))))))) (u, (u, (u, (u, (u, (u, (u, (u, (u, tt))))))))))
     where
       u : {A B C : Type 0} → A → B → (_≡_ {A = ℕ} 0 0 → ⊥) → C
       u a b z = absurd (z refl)
 
-  pub fate-missed : missed s c ≡ true → fateOf h s m c ≡ failing h s
+  pub fate-missed : missed h s c ≡ true → fateOf h s m c ≡ failing h s
   unfolding fateOf
   fate-missed e = when-yes _ _ e
 
-  pub fate-kept : missed s c ≡ false → fateOf h s m c ≡ passing row
+  pub fate-kept : missed h s c ≡ false → fateOf h s m c ≡ passing row
   unfolding fateOf
   fate-kept e = when-no _ _ e
-
-  -- no body reaches into the reply's head
-  pub fate-body : Every (λ (p : Piece). headSize ≤ p .first) (fateOf h s m c .body)
-  unfolding refused
-  fate-body =
-      fate-by (λ f. Every (λ (p : Piece). headSize ≤ p .first) (f .body)) tt tt (λ a place w. tt) (
-        λ a b. tt,
-        (
-          λ a b. (omega arith, (omega arith, tt)),
-          (
-            λ a b. (omega arith, (omega arith, tt)),
-            (
-              λ a b. (omega arith, (omega arith, tt)),
-              (
-                λ a b. (omega arith, tt),
-                (
-                  λ a b. tt,
-                  (
-                    λ a b. tt,
-                    (
-                      λ a b. (omega arith, tt),
-                      (
-                        λ a b. tt,
-                        (
-                          λ a b. (omega arith, (omega arith, tt)),
-                          (
-                            λ a b. (omega arith, (omega arith, tt)),
-                            tt,
-                          ),
-                        ),
-                      ),
-                    ),
-                  ),
-                ),
-              ),
-            ),
-          ),
-        ),
-      )
 
   -- every alarm fits half an octet
   pub fate-small : fateOf h s m c .alarm < 16
   unfolding refused
   fate-small =
-      fate-by (λ f. f .alarm < 16) z z (λ a place w. w .small)
-      (λ a b. z, (λ a b. z, (λ a b. z, (λ a b. z, (λ a b. z, (λ a b. z, (λ a b. z, (λ a b. z, (λ a b. z, (λ a b. z, (λ a b. z, tt)))))))))))
+      fate-by (λ f. f .alarm < 16) o o (λ a place w. w .small)
+      (in-both h s m c (Every _) (z, (z, (z, (z, (z, (z, (z, (z, (z, (z, (z, tt))))))))))) (z, (z, (z, (z, (z, (z, (z, (z, (z, tt))))))))))
     where
-      z : 0 < 16
-      z = omega arith
+      o : 0 < 16
+      o = omega arith
 
-  -- a size that is at most what L leaves behind a place
-  fits-behind : (asked size l from : ℕ) → eqb asked size ≡ true → leb asked (l - from) ≡ true → from ≤ l → from + size ≤ l
-  fits-behind asked size l from e u long = let p = eqb-true asked size e in let q = leb-true asked (l - from) u in omega arith
-
-  fits-least : (size l from : ℕ) → leb 1 size ≡ true → leb size (l - from) ≡ true → from + size ≤ l
-  fits-least size l from e u = let p = leb-true 1 size e in let q = leb-true size (l - from) u in omega arith
-
-  -- what an accepted write stores: the command's own octets, which the link may write
-  pub record Writing (f : Fate) : Type 0 where
-    pub alarm : f .alarm ≡ 0
-    pub address : ℕ
-    pub size : ℕ
-    pub from : ℕ
-    pub stores : f .stores ≡ piece address (take size (drop from c)) ∷ []
-    pub right : hasAll (writable (link s)) (cells (h .regions)) address size ≡ true
-    pub fits : from + size ≤ h .l
-
-  pub fate-writes : 8 ≤ h .l → (fateOf h s m c .stores ≡ []) ⊎ Writing (fateOf h s m c)
-  unfolding refused
-  fate-writes long =
-      fate-by (λ f. (f .stores ≡ []) ⊎ Writing f) (inl refl) (inl refl) (λ a place w. inl refl) (
-        λ a b. inl refl,
-        (
-          λ a b. inl refl,
-          (
-            λ a b. inr (record {
-              alarm = refl;
-              address = parameter h s m c .address;
-              size = parameter h s m c .size;
-              from = _;
-              stores = refl;
-              right = b .1 .1 .1 .0;
-              fits = fits-behind _ (parameter h s m c .size) (h .l) _ (b .1 .0) (b .1 .1 .0) long;
-            }),
-            (
-              λ a b. inl refl,
-              (
-                λ a b. inl refl,
-                (
-                  λ a b. inl refl,
-                  (
-                    λ a b. inl refl,
-                    (
-                      λ a b. inl refl,
-                      (
-                        λ a b. inl refl,
-                        (
-                          λ a b. inl refl,
-                          (
-                            λ a b. inr (record {
-                              alarm = refl;
-                              address = address h s m c;
-                              size = n h s m c;
-                              from = _;
-                              stores = refl;
-                              right = b .1 .1 .1 .1 .0;
-                              fits = fits-least (n h s m c) (h .l) _ (b .1 .0) (b .1 .1 .0);
-                            }),
-                            tt,
-                          ),
-                        ),
-                      ),
-                    ),
-                  ),
-                ),
-              ),
-            ),
-          ),
-        ),
-      )
+      z : {A B : Type 0} → A → B → 0 < 16
+      z a b = o
 
   -- a refused command keeps the link
   pub latch-stays : (b : Bool) (a x : ℕ) → laid (when b (piece 8 (a ∷ []) ∷ []) []) 1 x ≡ x
@@ -264,7 +160,9 @@ module _ (h : Sheet) (s m c : List ℕ) where
   row-stays =
       judged-by s (λ f. link s ≡ 3 → laid (f .changes) 1 (link s) ≡ 2 → ⊥)
       (λ a place w e q. same e (sym (latch-stays (eqb (commandLatch s) 0) a (link s)) ∙ q)) (code c) (table h s m c) named
+      (in-both h s m c (Every _)
       (stay, (stay, (stay, (stay, (stay, (stay, (away 2 (omega arith), (away 1 (omega arith), (λ a b e q. let w : ⊥ = omega arith in w, (stay, (stay, tt)))))))))))
+      (stay, (stay, (stay, (stay, (stay, (stay, (away 2 (omega arith), (away 1 (omega arith), (λ a b e q. let w : ⊥ = omega arith in w, tt))))))))))
     where
       same : link s ≡ 3 → link s ≡ 2 → ⊥
       same e q = omega arith
@@ -286,8 +184,11 @@ module _ (h : Sheet) (s m c : List ℕ) where
   row-counts n =
       judged-by s (λ f. laid (f .changes) 10 n ≡ n)
       (λ a place w. latch-counts (eqb (commandLatch s) 0) a n) (code c) (table h s m c) named
-      (λ a b. refl, (λ a b. refl, (λ a b. refl, (λ a b. refl, (λ a b. refl, (λ a b. refl, (λ a b. refl, (λ a b. refl, (λ a b. refl, (λ a b. refl, (λ a b. refl, tt)))))))))))
+      (in-both h s m c (Every _) (r, (r, (r, (r, (r, (r, (r, (r, (r, (r, (r, tt))))))))))) (r, (r, (r, (r, (r, (r, (r, (r, (r, tt))))))))))
     where
+      r : {A B : Type 0} → A → B → n ≡ n
+      r a b = refl
+
       latch-counts : (b : Bool) (a x : ℕ) → laid (when b (piece 8 (a ∷ []) ∷ []) []) 10 x ≡ x
       latch-counts true a x = refl
       latch-counts false a x = refl

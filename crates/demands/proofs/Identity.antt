@@ -10,6 +10,7 @@ use lib.ListN.{length, getD}
 use lib.Seq.{ext-getD}
 use Rattle.octets.specs.Pick.{pick}
 use Rattle.frame.specs.Fields.{commandOf}
+use Rattle.frame.specs.Places.{Sized}
 use Rattle.frame.proofs.Alike.{command-alike, memory-alike, reply-long, reply-alike, bits-alike}
 use Rattle.link.specs.Stored.{stateOf}
 use Rattle.link.specs.declared.state.LinkState.{LinkState}
@@ -25,14 +26,15 @@ use Rattle.sheet.specs.declared.walk.Verdict.the-variants.{Valid, Faulty}
 use Rattle.sheet.proofs.Valid.{valid-sheet, length-least}
 use Rattle.slave.specs.Answers.{told, onSheet, onState}
 use Rattle.slave.specs.Exchange.{Left, left, leftOf, refusalOf, exchanged, exchangeOf}
+use Rattle.slave.proofs.Fits.{valid-sized}
 use Rattle.slave.proofs.Order.{no-refusal}
 use Rattle.demands.specs.Identity.{identityIn, IdentityComesBack, OnlyControlDiffers, OnlyIdentityDiffers, ControlIsIgnored}
-use Rattle.demands.proofs.Done.{least-length, answered-done, seen-identity}
+use Rattle.demands.proofs.Done.{answered-done, seen-identity}
 use Rattle.demands.proofs.Lengths.{fits}
 
 pub identity-comes-back : IdentityComesBack
 identity-comes-back h sheet s m c r a =
-    ap (λ (l : Left). identityIn (l .reply)) (answered-done h sheet s m c r a) ∙ seen-identity h s m c (least-length (h .l) (a .good .l))
+    ap (λ (l : Left). identityIn (l .reply)) (answered-done h sheet s m c r a) ∙ seen-identity h s m c (a .good .l)
 
 -- what is left alike
 itself : (x : Left) → OnlyIdentityDiffers x x
@@ -75,21 +77,21 @@ module _ (sheet state memory reply : List ℕ) where
   exchanged-alike a₀ a₁ x₂ x₃ y₂ y₃ t lay st v free =
       let c : List ℕ = a₀ ∷ a₁ ∷ x₂ ∷ x₃ ∷ t in
       let d : List ℕ = a₀ ∷ a₁ ∷ y₂ ∷ y₃ ∷ t in
-      let o = outcomeOf sheet lay st (commandOf c) in
-      let same : o ≡ outcomeOf sheet lay st (commandOf d) =
-      outcome-alike sheet lay st (commandOf c) (y₂ / 64) ∙ sym (ap (outcomeOf sheet lay st) (command-alike a₀ a₁ x₂ x₃ y₂ y₃ t)) in
-      let least = length-least sheet lay (valid-sheet sheet lay v) in
+      let form = lay .form in
+      let o = outcomeOf sheet lay st (commandOf form c) in
+      let same : o ≡ outcomeOf sheet lay st (commandOf form d) =
+      outcome-alike sheet lay st (commandOf form c) _ ∙ sym (ap (outcomeOf sheet lay st) (command-alike form a₀ a₁ x₂ x₃ y₂ y₃ t)) in
       let r = no-refusal lay st (length memory) (length c) (length reply) free in
-      let long : 8 ≤ length c = omega (arith, r .1) in
+      let long = subst (Sized form) (sym (r .1)) (valid-sized sheet lay (valid-sheet sheet lay v)) in
       let f = fits sheet memory c reply lay st v free in
-      subst (λ (p : Outcome). OnlyIdentityDiffers (leftOf sheet memory c o) (leftOf sheet memory d p)) same
+      subst (λ (p : Outcome). OnlyIdentityDiffers (leftOf form sheet memory c o) (leftOf form sheet memory d p)) same
       (record {
         answers = refl;
         states = refl;
-        memories = memory-alike a₀ a₁ x₂ x₃ y₂ y₃ t (o .effect) memory;
-        long = reply-long a₀ a₁ x₂ x₃ y₂ y₃ t sheet memory o long f;
-        other-octets = reply-alike a₀ a₁ x₂ x₃ y₂ y₃ t sheet memory o long f;
-        other-bits = bits-alike a₀ a₁ x₂ x₃ y₂ y₃ t sheet memory o long f;
+        memories = memory-alike form a₀ a₁ x₂ x₃ y₂ y₃ t (o .effect) memory;
+        long = reply-long form a₀ a₁ x₂ x₃ y₂ y₃ t sheet memory o long f;
+        other-octets = reply-alike form a₀ a₁ x₂ x₃ y₂ y₃ t sheet memory o long f;
+        other-bits = bits-alike form a₀ a₁ x₂ x₃ y₂ y₃ t sheet memory o long f;
       })
 
   module _ (c d : List ℕ) (o : OnlyControlDiffers c d) where

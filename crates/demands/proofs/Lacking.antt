@@ -18,7 +18,7 @@ use Rattle.law.specs.Table.{Row, table, parameter, address, n}
 use Rattle.law.specs.Exchange.{Fate, fate, code, missed, refused, checked, judged, fateOf}
 use Rattle.law.proofs.Laid.{when-yes, when-no}
 use Rattle.demands.specs.Places.{Asked, asked, askedSpans, FirstLacks, FirstWithoutTheRight}
-use Rattle.demands.proofs.Fates.{when-cases}
+use Rattle.demands.proofs.Fates.{when-cases, in-both}
 use Rattle.demands.proofs.Places.{never, place-is, alarm-is}
 
 -- the count before the first octet that lacks a right tells that octet
@@ -88,46 +88,14 @@ module _ (h : Sheet) (s m c : List ℕ) where
   unfolding checked
   told =
       let p = parameter h s m c in
-      by-rows (table h s m c) (
-        λ _. done _ _ _,
-        (
-          λ e. behind _ _ (behind _ _ (behind _ _ (rights readable 0x01 (p .address) (p .size) _ _ _ (λ f. inl (e, f))))),
-          (
-            λ e. behind _ _ (behind _ _ (behind _ _ (rights (writable (link s)) 0x02 (p .address) (p .size) _ _ _ (λ f. inr (inl (e, f)))))),
-            (
-              λ _. behind _ _ (behind _ _ (behind _ _ (behind _ _ (done _ _ _)))),
-              (
-                λ _. behind _ _ (behind _ _ (done _ _ _)),
-                (
-                  λ _. behind _ _ (done _ _ _),
-                  (
-                    λ _. done _ _ _,
-                    (
-                      λ _. behind _ _ (behind _ _ (behind _ _ (behind _ _ (done _ _ _)))),
-                      (
-                        λ _. done _ _ _,
-                        (
-                          λ e. behind _ _ (behind _ _ (behind _ _ (behind _ _ (rights readable 0x1D (address h s m c) (n h s m c) _ _ _ (λ f. inr (inr (inl (e, f)))))))),
-                          (
-                            λ e. behind _ _ (behind _ _ (behind _ _ (behind _ _
-                                (rights (writable (link s)) 0x1E (address h s m c) (n h s m c) _ _ _ (λ f. inr (inr (inr (inl (e, f))))))))),
-                            tt,
-                          ),
-                        ),
-                      ),
-                    ),
-                  ),
-                ),
-              ),
-            ),
-          ),
-        ),
-      )
+      by-rows (table h s m c) (in-both h s m c (Every _)
+      (λ _. done _ _ _, (λ e. behind _ _ (behind _ _ (behind _ _ (rights readable 0x01 (p .address) (p .size) _ _ _ (λ f. inl (e, f))))), (λ e. behind _ _ (behind _ _ (behind _ _ (rights (writable (link s)) 0x02 (p .address) (p .size) _ _ _ (λ f. inr (inl (e, f)))))), (λ _. behind _ _ (behind _ _ (behind _ _ (behind _ _ (done _ _ _)))), (λ _. behind _ _ (behind _ _ (done _ _ _)), (λ _. behind _ _ (done _ _ _), (λ _. done _ _ _, (λ _. behind _ _ (behind _ _ (behind _ _ (behind _ _ (done _ _ _)))), (λ _. done _ _ _, (λ e. behind _ _ (behind _ _ (behind _ _ (behind _ _ (rights readable 0x1D (address h s m c) (n h s m c) _ _ _ (λ f. inr (inr (inl (e, f)))))))), (λ e. behind _ _ (behind _ _ (behind _ _ (behind _ _ (rights (writable (link s)) 0x1E (address h s m c) (n h s m c) _ _ _ (λ f. inr (inr (inr (inl (e, f))))))))), tt)))))))))))
+      (λ _. done _ _ _, (λ e. behind _ _ (behind _ _ (behind _ _ (rights readable 0x01 (p .address) (p .size) _ _ _ (λ f. inl (e, f))))), (λ e. behind _ _ (behind _ _ (behind _ _ (rights (writable (link s)) 0x02 (p .address) (p .size) _ _ _ (λ f. inr (inl (e, f)))))), (λ _. behind _ _ (behind _ _ (behind _ _ (behind _ _ (done _ _ _)))), (λ _. behind _ _ (done _ _ _), (λ _. behind _ _ (done _ _ _), (λ _. done _ _ _, (λ _. behind _ _ (behind _ _ (behind _ _ (done _ _ _))), (λ _. done _ _ _, tt))))))))))
 
   fate-told : Told (fateOf h s m c)
   unfolding fateOf
   fate-told =
-      when-cases Told (missed s c)
+      when-cases Told (missed h s c)
       (λ _. when-cases Told (ltb (failures s) (allows h)) (λ _. record { lacks = λ e. absurd (let w : ⊥ = omega arith in w) }) (λ _. record { lacks = λ e. absurd (let w : ⊥ = omega arith in w) }))
       (λ _. record { lacks = told .lacks })
 

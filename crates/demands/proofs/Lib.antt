@@ -4,6 +4,7 @@ pub mod LawBench
 pub mod Histories
 pub mod Refusals
 pub mod Fates
+pub mod Pieces
 pub mod Done
 pub mod Counts
 pub mod Exact

@@ -36,9 +36,10 @@ use Rattle.law.proofs.Layouts.{layoutFor}
 use Rattle.demands.specs.Accepted.{accepted}
 use Rattle.demands.specs.Answered.{Answered}
 use Rattle.demands.specs.Writes.{cellAt, Wrote, WritesOwnOctets}
-use Rattle.demands.proofs.Done.{least-length, answered-done}
+use Rattle.demands.proofs.Done.{answered-done}
 use Rattle.demands.proofs.OnTheWire.{quiet}
-use Rattle.demands.proofs.Fates.{Writing, fate-writes, fate-missed, fate-kept}
+use Rattle.demands.proofs.Fates.{fate-missed, fate-kept}
+use Rattle.demands.proofs.Pieces.{Writing, fate-writes}
 
 -- an exchange that is refused leaves all as it was
 abbrev pub Refuses : Sheet → List ℕ → List ℕ → List ℕ → ℕ → Type 0
@@ -140,9 +141,9 @@ no-piece e = let z : _≡_ {A = ℕ} 0 1 = ap length e in omega arith
 stores-accepted : (h : Sheet) (s m c : List ℕ) (p : Piece) → fateOf h s m c .alarm ≡ 0 → fateOf h s m c .stores ≡ p ∷ [] → accepted h s m c ≡ true
 stores-accepted h s m c p z e =
     ⊎-elim
-    (λ (t : missed s c ≡ true). absurd (no-piece (sym (ap (λ (g : Fate). g .stores) (fate-missed h s m c t) ∙ quiet h s .2) ∙ e)))
-    (λ (t : missed s c ≡ false). ap₂ _&&_ (ap not t) (eq-eqb _ 0 (sym (ap (λ (g : Fate). g .alarm) (fate-kept h s m c t)) ∙ z)))
-    (decided (missed s c))
+    (λ (t : missed h s c ≡ true). absurd (no-piece (sym (ap (λ (g : Fate). g .stores) (fate-missed h s m c t) ∙ quiet h s .2) ∙ e)))
+    (λ (t : missed h s c ≡ false). ap₂ _&&_ (ap not t) (eq-eqb _ 0 (sym (ap (λ (g : Fate). g .alarm) (fate-kept h s m c t)) ∙ z)))
+    (decided (missed h s c))
 
 pub wrote-is : (sheet s m c r : List ℕ) (place k : ℕ) → Wrote sheet s m c r place k → getD (exchangeOf sheet s m c r .memory) place 0 ≡ getD c k 0
 wrote-is sheet s m c r place k w =
@@ -180,7 +181,7 @@ module _ (sheet s m c r : List ℕ) (place : ℕ) (none : (k : ℕ) → Wrote sh
         below = below;
         octet = refl;
       })))
-      (fate-writes h s m c (least-length (h .l) (a .good .l))))
+      (fate-writes h s m c (a .good .l)))
       (λ (l : length m ≤ place). octet-past h sheet s m c r a place l)
       (lt-or-le place (length m))
 

@@ -19,17 +19,18 @@ use Rattle.slave.specs.Exchange.{Left, exchangeOf}
 use Rattle.demands.specs.Accepted.{accepted}
 use Rattle.demands.specs.Answered.{Answered, alarmIn}
 use Rattle.demands.specs.Hidden.{Seen, seen}
-use Rattle.demands.specs.Places.{placeIn, Holds, Decided, allChecks, FirstFailedIsTold, UnknownCodeIsTold, OctetsOfTheFields, NoFieldWasWrong, PlacesAreTheSame}
+use Rattle.demands.specs.Places.{dataPlaces, placesOf, placeIn, Holds, Decided, allChecks, FirstFailedIsTold, UnknownCodeIsTold, OctetsOfTheFields, NoFieldWasWrong, PlacesAreTheSame}
 use Rattle.demands.specs.Sequences.{runOf}
-use Rattle.demands.proofs.Done.{least-length, answered-done, seen-alarm}
+use Rattle.demands.proofs.Done.{answered-done, seen-alarm}
 use Rattle.demands.proofs.Exact.{acceptance-is-exact}
 use Rattle.demands.proofs.OnTheWire.{quiet}
-use Rattle.demands.proofs.Fates.{both, namedChecks, namedRows, check-named, doneRow, fate-by, fate-missed, fate-kept, when-cases}
+use Rattle.demands.proofs.Fates.{both, namedChecks, namedRows, check-named, doneRow, by-type, in-both, named, fate-by, fate-missed, fate-kept, when-cases}
 use Rattle.demands.proofs.Runs.{demand-3}
 
 pub octets-of-the-fields : OctetsOfTheFields
 unfolding when
-octets-of-the-fields h s m c = refl
+octets-of-the-fields h s m c =
+    by-type h s m c (λ pdu rs. map (λ (r : Row). r .code ∷ dataPlaces (r .checks)) rs ≡ placesOf pdu) refl refl (h .pdu)
 
 pub never : {A : Type 0} → _≡_ {A = Bool} true false → A
 never e = absurd (let z : _≡_ {A = ℕ} 0 1 = cc in let v : ⊥ = omega arith in v)
@@ -111,15 +112,15 @@ module _ (h : Sheet) (sheet s m c r : List ℕ) (a : Answered h sheet s m c r) w
   pub place-is : placeIn x ≡ fateOf h s m c .place
   place-is = ap placeIn (answered-done h sheet s m c r a)
 
-  pub alarm-is : alarmIn (x .reply) ≡ fateOf h s m c .alarm
-  alarm-is = ap (λ (l : Left). alarmIn (l .reply)) (answered-done h sheet s m c r a) ∙ seen-alarm h s m c (least-length (h .l) (a .good .l))
+  pub alarm-is : alarmIn h (x .reply) ≡ fateOf h s m c .alarm
+  alarm-is = ap (λ (l : Left). alarmIn h (l .reply)) (answered-done h sheet s m c r a) ∙ seen-alarm h s m c (a .good .l)
 
-  module _ (go : missed s c ≡ false) where
+  module _ (go : missed h s c ≡ false) where
     abbrev row : Fate
     row = judged s (code c) (table h s m c)
 
     -- the reply's alarm and the answer's place are the row's
-    row-alarm : alarmIn (x .reply) ≡ row .alarm
+    row-alarm : alarmIn h (x .reply) ≡ row .alarm
     row-alarm = alarm-is ∙ ap (λ (f : Fate). f .alarm) (fate-kept h s m c go)
 
     row-place : placeIn x ≡ row .place
@@ -130,7 +131,7 @@ module _ (h : Sheet) (sheet s m c r : List ℕ) (a : Answered h sheet s m c r) w
     accepts z = ap (λ (b : Bool). not b && eqb (row .alarm) 0) go ∙ eq-eqb (row .alarm) 0 z
 
     -- a row that judges the command
-    decides : (q : Row) → namedChecks (q .checks) ≡ true → row ≡ byRow s (code c) q → Decided s (allChecks s q) x
+    decides : (q : Row) → namedChecks (q .checks) ≡ true → row ≡ byRow s (code c) q → Decided h s (allChecks s q) x
     unfolding refused
     decides q named own =
         let exact = acceptance-is-exact h sheet s m c r a in
@@ -147,14 +148,15 @@ module _ (h : Sheet) (sheet s m c r : List ℕ) (a : Answered h sheet s m c r) w
         }
 
     each : (rs : List Row) → namedRows rs ≡ true → Every (λ (q : Row). code c ≡ q .code → row ≡ byRow s (code c) q) rs
-        → Every (λ (q : Row). code c ≡ q .code → Decided s (allChecks s q) x) rs
+        → Every (λ (q : Row). code c ≡ q .code → Decided h s (allChecks s q) x) rs
     each [] named all = tt
     each (q ∷ qs) named all =
         let p = both _ _ named in
         (λ e. decides q (p .0) (all .0 e), each qs (p .1) (all .1))
 
 pub first-failed-is-told : FirstFailedIsTold
-first-failed-is-told h sheet s m c r a go = each h sheet s m c r a go (table h s m c) refl (row-of s (code c) (table h s m c) refl)
+first-failed-is-told h sheet s m c r a go =
+    each h sheet s m c r a go (table h s m c) (named h s m c) (row-of s (code c) (table h s m c) (in-both h s m c (λ rs. Unlike s (code c) rs ≡ true) refl refl))
 
 -- a code that no row has
 none-judges : (s : List ℕ) (k : ℕ) (rs : List Row) → Every (λ (r : Row). k ≡ r .code → ⊥) rs → judged s k rs ≡ refused s 8 0
@@ -177,7 +179,7 @@ unfolding refused
 no-field h s m c =
     fate-by h s m c (λ f. oneOf (f .alarm) (0 ∷ 8 ∷ 12 ∷ []) ≡ true → f .place ≡ 0) (λ e. refl) (λ e. refl)
     (λ a place w e. w .whole (sym (ap (λ (b : Bool). b || oneOf a (8 ∷ 12 ∷ [])) (ne-eqb a 0 (λ z. let l = w .some in let v : ⊥ = omega arith in v))) ∙ e))
-    (z, (z, (z, (z, (z, (z, (z, (z, (z, (z, (z, tt)))))))))))
+    (in-both h s m c (Every _) (z, (z, (z, (z, (z, (z, (z, (z, (z, (z, (z, tt))))))))))) (z, (z, (z, (z, (z, (z, (z, (z, (z, tt))))))))))
   where
     z : {A B C : Type 0} → A → B → C → _≡_ {A = ℕ} 0 0
     z a b e = refl

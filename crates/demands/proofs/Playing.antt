@@ -56,17 +56,17 @@ module _ (sheet state memory command reply : List ℕ) (lay : Layout) (st : Link
   answered-zero = ap (λ (x : Left). x .answer .number) answers
 
   pub again : Playable sheet (exchangeOf sheet state memory command reply .state) (exchangeOf sheet state memory command reply .memory) lay
-      (outcomeOf sheet lay st (commandOf command) .next)
+      (outcomeOf sheet lay st (commandOf (lay .form) command) .next)
   unfolding exchanged
   again =
       let z = p .on in
       let facts = read-valid state (lay .l) (lay .tolerance) st (p .held) .1 in
       let few = tolerance-small sheet lay (p .valid) in
-      let on = outcome-on sheet lay st (commandOf command) (lay .l) facts (omega (arith, z)) in
+      let on = outcome-on sheet lay st (commandOf (lay .form) command) (lay .l) facts (omega (arith, z)) in
       record {
         valid = p .valid;
         held = ap (λ (x : Left). stateOf (x .state) (lay .l) (lay .tolerance)) answers
-            ∙ read-back _ (lay .l) (lay .tolerance) (outcome-valid sheet lay st (commandOf command) (lay .l) facts (omega (arith, z)) (omega (arith, few)));
+            ∙ read-back _ (lay .l) (lay .tolerance) (outcome-valid sheet lay st (commandOf (lay .form) command) (lay .l) facts (omega (arith, z)) (omega (arith, few)));
         whole = memory-keeps sheet state memory command reply ∙ p .whole;
         on = λ e. omega (arith, on, e);
       }

@@ -65,7 +65,7 @@ module _ (h : Sheet) (w : WellFormed h) (E : ℕ → Type 0) (readable : (i : �
               lent = q .answered .lent;
               enabled = q .answered .enabled;
             };
-            accepts = ap (λ (f : Fate). not (missed state command) && eqb (f .alarm) 0) (sym (row-same (q .h) state m₁ m₂ command there)) ∙ q .accepts;
+            accepts = ap (λ (f : Fate). not (missed (q .h) state command) && eqb (f .alarm) 0) (sym (row-same (q .h) state m₁ m₂ command there)) ∙ q .accepts;
             address = q .address;
             n = q .n;
             from = q .from;
@@ -98,7 +98,7 @@ module _ (h : Sheet) (w : WellFormed h) (E : ℕ → Type 0) (readable : (i : �
           let long : length m₁ ≡ length m₂ = w₁ ∙ sym w₂ in
           record {
             same = ap seen e₁
-                ∙ ap (λ (g : Fate). record { answer = told 0 (g .place); state = stateAfter state (mn command) (g .changes); reply = replyFor h command (g .alarm) (stateAfter state (mn command) (g .changes)) (g .body) }) f
+                ∙ ap (λ (g : Fate). record { answer = told 0 (g .place); state = stateAfter state (mn h command) (g .changes); reply = replyFor h command (g .alarm) (stateAfter state (mn h command) (g .changes)) (g .body) }) f
                 ∙ sym (ap seen e₂);
             whole₁ = ap (λ (l : Left). length (l .memory)) e₁ ∙ stored-length (fateOf h state m₁ command .stores) (cells (h .regions)) m₁ (fit m₁ w₁) ∙ w₁;
             whole₂ = ap (λ (l : Left). length (l .memory)) e₂ ∙ stored-length (fateOf h state m₂ command .stores) (cells (h .regions)) m₂ (fit m₂ w₂) ∙ w₂;

@@ -12,10 +12,10 @@ use lib.ListN.{getD, drop}
 use lib.Seq.{getD-drop}
 use Rattle.octets.proofs.Cases.{decided}
 use Rattle.law.specs.Words.{when, Every, oneOf, Piece, piece}
-use Rattle.law.specs.Sheet.{Sheet}
+use Rattle.law.specs.Sheet.{PduType, enhanced, short, Sheet}
 use Rattle.law.specs.State.{link}
 use Rattle.law.specs.Memory.{Cell, cells, readable, has, hasAll, heldAt, held}
-use Rattle.law.specs.Table.{Check, check, Row, table, parameter, address, n}
+use Rattle.law.specs.Table.{Check, check, Row, row, tableOf, table, parameter, address, n}
 use Rattle.law.specs.Exchange.{fate, code, missed, checked, judged, fateOf, failing, passing, Fate}
 use Rattle.law.proofs.Laid.{when-yes, when-no}
 use Rattle.demands.specs.Writes.{cellAt}
@@ -80,65 +80,28 @@ judged-same s code (r ∷ rs) (q ∷ qs) (t, ts) =
     λ i. when (eqb code (t .code i)) (first i) (rest i)
 
 -- two reads of the same octets
-reads-alike : (echo : Piece) (from : ℕ) {x y : List ℕ} → x ≡ y → fate 0 0 [] (echo ∷ piece from x ∷ []) [] ≡ fate 0 0 [] (echo ∷ piece from y ∷ []) []
-reads-alike echo from e = ap (λ (z : List ℕ). fate 0 0 [] (echo ∷ piece from z ∷ []) []) e
+read-row : {k : ℕ} {links : List ℕ} {checks : List Check} {echo : Piece} {from : ℕ} {x y : List ℕ} → (Every Holds checks → x ≡ y)
+    → Twin (row k links checks [] (echo ∷ piece from x ∷ []) []) (row k links checks [] (echo ∷ piece from y ∷ []) [])
+read-row {echo = echo} {from} e =
+    record { code = refl; links = refl; checks = refl; done = λ all. ap (λ (z : List ℕ). fate 0 0 [] (echo ∷ piece from z ∷ []) []) (e all) }
 
 same-row : (r : Row) → Twin r r
 same-row r = record { code = refl; links = refl; checks = refl; done = λ all. refl }
 
 module _ (h : Sheet) (s m₁ m₂ c : List ℕ) (agree : AgreeShown (cells (h .regions)) m₁ m₂) where
-  -- the two rows that read
+  -- the rows that read
+  twins-of : (pdu : PduType) → Twins (tableOf h s m₁ c pdu) (tableOf h s m₂ c pdu)
+  twins-of enhanced =
+      (same-row _, (read-row (λ all. held-same (cells (h .regions)) m₁ m₂ (parameter h s m₁ c .address) (parameter h s m₁ c .size) agree (all .1 .1 .1 .0)), (same-row _, (same-row _, (same-row _, (same-row _, (same-row _, (same-row _, (same-row _, (read-row (λ all. held-same (cells (h .regions)) m₁ m₂ (address h s m₁ c) (n h s m₁ c) agree (all .1 .1 .1 .1 .0)), (same-row _, refl)))))))))))
+  twins-of short =
+      (same-row _, (read-row (λ all. held-same (cells (h .regions)) m₁ m₂ (parameter h s m₁ c .address) (parameter h s m₁ c .size) agree (all .1 .1 .1 .0)), (same-row _, (same-row _, (same-row _, (same-row _, (same-row _, (same-row _, (same-row _, refl)))))))))
+
   twins : Twins (table h s m₁ c) (table h s m₂ c)
-  twins =
-      let cs = cells (h .regions) in (
-        same-row _,
-        (
-          record {
-            code = refl;
-            links = refl;
-            checks = refl;
-            done = λ all. reads-alike _ _
-                (held-same cs m₁ m₂ (parameter h s m₁ c .address) (parameter h s m₁ c .size) agree (all .1 .1 .1 .0));
-          },
-          (
-            same-row _,
-            (
-              same-row _,
-              (
-                same-row _,
-                (
-                  same-row _,
-                  (
-                    same-row _,
-                    (
-                      same-row _,
-                      (
-                        same-row _,
-                        (
-                          record {
-                            code = refl;
-                            links = refl;
-                            checks = refl;
-                            done = λ all. reads-alike _ _ (held-same cs m₁ m₂ (address h s m₁ c) (n h s m₁ c) agree (all .1 .1 .1 .1 .0));
-                          },
-                          (
-                            same-row _,
-                            refl,
-                          ),
-                        ),
-                      ),
-                    ),
-                  ),
-                ),
-              ),
-            ),
-          ),
-        ),
-      )
+  twins = twins-of (h .pdu)
 
   pub row-same : judged s (code c) (table h s m₁ c) ≡ judged s (code c) (table h s m₂ c)
   row-same = judged-same s (code c) (table h s m₁ c) (table h s m₂ c) twins
 
   pub fate-same : fateOf h s m₁ c ≡ fateOf h s m₂ c
   unfolding fateOf
-  fate-same = ap (λ (f : Fate). when (missed s c) (failing h s) (passing f)) row-same
+  fate-same = ap (λ (f : Fate). when (missed h s c) (failing h s) (passing f)) row-same

@@ -34,20 +34,20 @@ use Rattle.demands.proofs.OnTheWire.{refused-on-the-wire}
 use Rattle.demands.proofs.Places.{alarm-is}
 use Rattle.demands.proofs.Watchdog.{octet-after, known-after, last-after, rsn-after, passes, asked}
 
-fails-it : (s c : List ℕ) → Asks s → Misses s c → missed s c ≡ true
-fails-it s c w n =
-    ⊎-elim (λ (q : missed s c ≡ true). q) (λ (q : missed s c ≡ false). absurd (n (asked s c w q))) (decided (missed s c))
+fails-it : (h : Sheet) (s c : List ℕ) → Asks s → Misses h s c → missed h s c ≡ true
+fails-it h s c w n =
+    ⊎-elim (λ (q : missed h s c ≡ true). q) (λ (q : missed h s c ≡ false). absurd (n (asked h s c w q))) (decided (missed h s c))
 
 -- an answered exchange that fails check 1
-module _ (h : Sheet) (sheet s m c r : List ℕ) (a : Answered h sheet s m c r) (w : Asks s) (n : Misses s c) where
+module _ (h : Sheet) (sheet s m c r : List ℕ) (a : Answered h sheet s m c r) (w : Asks s) (n : Misses h s c) where
   abbrev x : Left
   x = exchangeOf sheet s m c r
 
   abbrev counts : List Piece
   counts = tolerated s .changes
 
-  miss : missed s c ≡ true
-  miss = fails-it s c w n
+  miss : missed h s c ≡ true
+  miss = fails-it h s c w n
 
   eleven : length s ≡ 11
   eleven = valid-true h s (a .valid) .0
@@ -62,32 +62,32 @@ module _ (h : Sheet) (sheet s m c r : List ℕ) (a : Answered h sheet s m c r) (
     fate-is : fateOf h s m c ≡ tolerated s
     fate-is = failing-yes h sheet s m c r a miss below
 
-    is : x .state ≡ stateAfter s (mn c) counts
+    is : x .state ≡ stateAfter s (mn h c) counts
     is = state-is h sheet s m c r a (tolerated s) fate-is
 
     still : link (over counts s) ≡ 3
     still = same-link h sheet s m c r a ∙ w .synchronous
 
     -- an octet behind it, but for the watchdog's
-    behind : (k : ℕ) → k < 11 → getD (x .state) k 0 ≡ laid (piece 5 (1 ∷ mn c ∷ (rsn s + 1) % 16 ∷ []) ∷ []) (0 + k) (laid counts (0 + k) (getD s k 0))
+    behind : (k : ℕ) → k < 11 → getD (x .state) k 0 ≡ laid (piece 5 (1 ∷ mn h c ∷ (rsn s + 1) % 16 ∷ []) ∷ []) (0 + k) (laid counts (0 + k) (getD s k 0))
     behind k l =
         let e = eleven in
-        ap (λ (t : List ℕ). getD t k 0) is ∙ octet-after s (mn c) counts eleven (w .synchronous) still k l
-        ∙ ap (laid (piece 5 (1 ∷ mn c ∷ (rsn s + 1) % 16 ∷ []) ∷ []) (0 + k)) (over-at 0 counts s k (omega arith))
+        ap (λ (t : List ℕ). getD t k 0) is ∙ octet-after s (mn h c) counts eleven (w .synchronous) still k l
+        ∙ ap (laid (piece 5 (1 ∷ mn h c ∷ (rsn s + 1) % 16 ∷ []) ∷ []) (0 + k)) (over-at 0 counts s k (omega arith))
 
     goes-on : StillInStep s (x .state) (failures s + 1)
     unfolding laid when
     goes-on = record {
       in-step = record {
         synchronous = behind 1 (omega arith) ∙ w .synchronous;
-        known = ap mnKnown is ∙ known-after s (mn c) counts eleven (w .synchronous) still;
+        known = ap mnKnown is ∙ known-after s (mn h c) counts eleven (w .synchronous) still;
       };
       command-latch = behind 8 (omega arith);
       communication-latch = behind 9 (omega arith);
       counted = tolerated-count h sheet s m c r a miss below;
     }
 
-    pub one-tolerated : Tolerated s m c x
+    pub one-tolerated : Tolerated h s m c x
     one-tolerated =
         let q = refused-on-the-wire h sheet s m c r a not-accepted in
         record {
@@ -97,8 +97,8 @@ module _ (h : Sheet) (sheet s m c r : List ℕ) (a : Answered h sheet s m c r) (
           no-alarm = q .by-watchdog miss .0;
           bit-1 = tolerated-shown h sheet s m c r a miss below;
           goes-on = goes-on;
-          last-mn = ap lastMn is ∙ last-after s (mn c) counts eleven (w .synchronous) still;
-          rsn-advances = ap rsn is ∙ rsn-after s (mn c) counts eleven (w .synchronous) still;
+          last-mn = ap lastMn is ∙ last-after s (mn h c) counts eleven (w .synchronous) still;
+          rsn-advances = ap rsn is ∙ rsn-after s (mn h c) counts eleven (w .synchronous) still;
         }
 
     -- what it leaves, in which the memory shows nowhere but in itself
@@ -124,17 +124,17 @@ module _ (h : Sheet) (sheet s m c r : List ℕ) (a : Answered h sheet s m c r) (
     beside false true u v k = refl
     beside false false u v k = refl
 
-    latched : communicationLatch (stateAfter s (mn c) (lost .changes)) ≡ 12
+    latched : communicationLatch (stateAfter s (mn h c) (lost .changes)) ≡ 12
     unfolding stateAfter watched laid when
     latched =
         let e = eleven in
         let o = over (lost .changes) s in
         let k = over-length 0 (lost .changes) s in
-        over-at 0 (watched (link s) (link o) s (mn c)) o 9 (omega arith)
-        ∙ beside (eqb (link s) 3) (eqb (link o) 3) (mn c) ((rsn s + 1) % 16) (getD o 9 0)
+        over-at 0 (watched (link s) (link o) s (mn h c)) o 9 (omega arith)
+        ∙ beside (eqb (link s) 3) (eqb (link o) 3) (mn h c) ((rsn s + 1) % 16) (getD o 9 0)
         ∙ over-at 0 (lost .changes) s 9 (omega arith)
 
-    pub leaves-link-3 : LeavesLink3 x
+    pub leaves-link-3 : LeavesLink3 h x
     leaves-link-3 = record {
       link-2 = link-is h sheet s m c r a lost fate-lost ∙ lost-link h sheet s m c r a (link s);
       alarm-12 = ap communicationLatch (state-is h sheet s m c r a lost fate-lost) ∙ latched;
@@ -204,8 +204,8 @@ none-without = record {
       let z = allows-none h none in
       told-by-count h sheet s m c r a
       ∙ ap (λ (k : ℕ). not (eqb k 0))
-      (⊎-elim (λ (q : missed s c ≡ true). lost-count h sheet s m c r a q (le-ltb (failures s) (allows h) (omega arith)))
-      (λ (q : missed s c ≡ false). passed-count h sheet s m c r a q) (decided (missed s c)));
+      (⊎-elim (λ (q : missed h s c ≡ true). lost-count h sheet s m c r a q (le-ltb (failures s) (allows h) (omega arith)))
+      (λ (q : missed h s c ≡ false). passed-count h sheet s m c r a q) (decided (missed h s c)));
 }
 
 pub one-is-tolerated : OneIsTolerated
@@ -224,5 +224,5 @@ one-is-tolerated = record {
 
 pub passing-counts-none : PassingCountsNone
 passing-counts-none h sheet s m c r a w both =
-    let holds = ap₂ _&&_ (eq-eqb (mn c) ((lastMn s + 1) % 16) (both .0)) (eq-eqb (sn c) (rsn s) (both .1)) in
+    let holds = ap₂ _&&_ (eq-eqb (mn h c) ((lastMn s + 1) % 16) (both .0)) (eq-eqb (sn h c) (rsn s) (both .1)) in
     passed-count h sheet s m c r a (passes (eqb (link s) 3) (eqb (mnKnown s) 1) holds)

@@ -17,12 +17,12 @@ use Rattle.demands.specs.Answered.{Answered, alarmIn, toleratedIn}
 -- check 1 holds, and the code's row has no alarm for the command
 abbrev pub accepted : Sheet → List ℕ → List ℕ → List ℕ → Bool
 accepted h state memory command =
-    not (missed state command) && eqb (judged state (octet command 0) (table h state memory command) .alarm) 0
+    not (missed h state command) && eqb (judged state (octet command 0) (table h state memory command) .alarm) 0
 
 -- a command is executed, by what a host sees: its alarm is "0 if accepted". A failed watchdog has command alarm 0 too, but lets the link fall from 3 to 2,
 -- or, where it is tolerated, sets status bit 1; and no executed command does.
-pub record Executed (state : List ℕ) (l : Left) : Type 0 where
-  pub no-alarm : alarmIn (l .reply) ≡ 0
+pub record Executed (h : Sheet) (state : List ℕ) (l : Left) : Type 0 where
+  pub no-alarm : alarmIn h (l .reply) ≡ 0
   pub not-lost : link state ≡ 3 → link (l .state) ≡ 2 → ⊥
   pub not-tolerated : toleratedIn (l .reply) ≡ false
 
@@ -30,7 +30,7 @@ pub record Executed (state : List ℕ) (l : Left) : Type 0 where
 abbrev pub AcceptanceIsExact : Type 0
 AcceptanceIsExact =
     (h : Sheet) (sheet state memory command reply : List ℕ) → Answered h sheet state memory command reply
-    → (accepted h state memory command ≡ true) ↔ Executed state (exchangeOf sheet state memory command reply)
+    → (accepted h state memory command ≡ true) ↔ Executed h state (exchangeOf sheet state memory command reply)
 
 -- a span has a right exactly where every octet of it has
 abbrev pub RightsOverWholeSpan : Type 0

@@ -4,7 +4,7 @@ use Prim.Native.Nat.{ℕ, _/_, _%_}
 use mathlib.Core.List.{List}
 use mathlib.Core.Path.{_≡_}
 use lib.ListN.{length, getD}
-use Rattle.law.specs.Sheet.{Sheet}
+use Rattle.law.specs.Sheet.{PduType, enhanced, short, Sheet}
 use Rattle.slave.specs.Exchange.{Left, exchangeOf}
 use Rattle.demands.specs.Answered.{Answered}
 
@@ -12,11 +12,16 @@ use Rattle.demands.specs.Answered.{Answered}
 abbrev pub identityIn : List ℕ → ℕ
 identityIn pdu = getD pdu 2 0 / 64 % 4
 
--- in every built reply those bits are the command's
+-- request 7: "no identity is echoed" in the short type
+abbrev pub echoed : PduType → ℕ → ℕ
+echoed enhanced x = x
+echoed short x = 0
+
+-- in every built reply those bits are the command's, or 0 in the short type
 abbrev pub IdentityComesBack : Type 0
 IdentityComesBack =
     (h : Sheet) (sheet state memory command reply : List ℕ) → Answered h sheet state memory command reply
-    → identityIn (exchangeOf sheet state memory command reply .reply) ≡ identityIn command
+    → identityIn (exchangeOf sheet state memory command reply .reply) ≡ echoed (h .pdu) (identityIn command)
 
 -- two commands that differ only in octets 2 and 3
 pub record OnlyControlDiffers (c d : List ℕ) : Type 0 where

@@ -2,7 +2,7 @@
 use mathlib.Core.List.{[], _∷_}
 use mathlib.Core.Path.{_≡_}
 use Rattle.law.specs.Words.{Every}
-use Rattle.law.specs.Sheet.{Sheet}
+use Rattle.law.specs.Sheet.{enhanced, Sheet}
 use Rattle.law.specs.Calls.{Result, result, exchange}
 use Rattle.law.specs.ByTables.{ByLaw}
 use Rattle.slave.specs.Exchange.{Left}
@@ -11,6 +11,7 @@ use Rattle.demands.specs.Bench.{Case, cases, old}
 -- sheet P as the law has it
 abbrev pub lawP : Sheet
 lawP = record {
+  pdu = enhanced;
   l = 16;
   version = 0x30;
   profile = 0;

@@ -6,7 +6,7 @@ use mathlib.Core.Logic.{_↔_}
 use mathlib.Core.Path.{_≡_}
 use lib.Dec.{eqb}
 use Rattle.law.specs.Words.{when, Every, Some, oneOf}
-use Rattle.law.specs.Sheet.{Sheet, WellFormed, sheetOctets}
+use Rattle.law.specs.Sheet.{PduType, enhanced, short, Sheet, WellFormed, sheetOctets}
 use Rattle.law.specs.State.{link}
 use Rattle.law.specs.Memory.{Cell, cells, readable, writable, has}
 use Rattle.law.specs.Table.{Check, check, Row, table, parameter, address, n}
@@ -27,11 +27,11 @@ Holds k = k .holds ≡ true
 
 -- what a row's checks decide of an exchange: the command is executed exactly when all of them hold, and then the place is 0; and where one of them is the first
 -- that does not hold, the host is told its alarm and its place
-pub record Decided (state : List ℕ) (checks : List Check) (l : Left) : Type 0 where
-  pub executed-exactly : Every Holds checks ↔ Executed state l
+pub record Decided (h : Sheet) (state : List ℕ) (checks : List Check) (l : Left) : Type 0 where
+  pub executed-exactly : Every Holds checks ↔ Executed h state l
   pub no-place : Every Holds checks → placeIn l ≡ 0
   pub first-that-fails : (before : List Check) (k : Check) (after : List Check) → checks ≡ before ++ k ∷ after → Every Holds before → k .holds ≡ false
-      → (alarmIn (l .reply) ≡ k .alarm) × (placeIn l ≡ k .place)
+      → (alarmIn h (l .reply) ≡ k .alarm) × (placeIn l ≡ k .place)
 
 -- check 3, that the link allows the code, and then the row's own
 abbrev pub allChecks : List ℕ → Row → List Check
@@ -40,35 +40,34 @@ allChecks state r = check (oneOf (link state) (r .links)) 12 0 ∷ r .checks
 -- so it is for the row of the command's code, where check 1 does not fail
 abbrev pub FirstFailedIsTold : Type 0
 FirstFailedIsTold =
-    (h : Sheet) (sheet state memory command reply : List ℕ) → Answered h sheet state memory command reply → missed state command ≡ false
-    → Every (λ (r : Row). code command ≡ r .code → Decided state (allChecks state r) (exchangeOf sheet state memory command reply))
+    (h : Sheet) (sheet state memory command reply : List ℕ) → Answered h sheet state memory command reply → missed h state command ≡ false
+    → Every (λ (r : Row). code command ≡ r .code → Decided h state (allChecks state r) (exchangeOf sheet state memory command reply))
     (table h state memory command)
 
 -- and where no row has the code, it is unknown: alarm 8, and no place
 abbrev pub UnknownCodeIsTold : Type 0
 UnknownCodeIsTold =
-    (h : Sheet) (sheet state memory command reply : List ℕ) → Answered h sheet state memory command reply → missed state command ≡ false
+    (h : Sheet) (sheet state memory command reply : List ℕ) → Answered h sheet state memory command reply → missed h state command ≡ false
     → Every (λ (r : Row). code command ≡ r .code → ⊥) (table h state memory command)
-    → (let l = exchangeOf sheet state memory command reply in (alarmIn (l .reply) ≡ 8) × (placeIn l ≡ 0))
+    → (let l = exchangeOf sheet state memory command reply in (alarmIn h (l .reply) ≡ 8) × (placeIn l ≡ 0))
 
 -- the places of the checks with alarm 9, in their order; of each code
 abbrev pub dataPlaces : List Check → List ℕ
 dataPlaces [] = []
 dataPlaces (k ∷ ks) = when (eqb (k .alarm) 9) (k .place ∷ dataPlaces ks) (dataPlaces ks)
 
--- "For a count or size, with its product or sum, it is 6; for an unmapped address, 8; for a parameter number, 4; for ALM_RD at L 8, 0"
-abbrev pub OctetsOfTheFields : Type 0
-OctetsOfTheFields =
-    (h : Sheet) (state memory command : List ℕ)
-    → map (λ (r : Row). r .code ∷ dataPlaces (r .checks)) (table h state memory command)
+-- "For a count or size, with its product or sum, it is 6; for an unmapped address, 8; for a parameter number, 4; for ALM_RD at L 8, 0". In both types a field
+-- that both have begins at the same octet; request 7: MEM_RD and MEM_WR, CONNECT's profile and ALM_RD at L 8 are the enhanced type's alone
+abbrev pub placesOf : PduType → List (List ℕ)
+placesOf enhanced =
     -- NOP
-    ≡ (0x00 ∷ [])
+    (0x00 ∷ [])
     -- PRM_RD and PRM_WR: number, size, size
     ∷ (0x01 ∷ 4 ∷ 6 ∷ 6 ∷ [])
     ∷ (0x02 ∷ 4 ∷ 6 ∷ 6 ∷ [])
     -- ID_RD: code, size at least 1, offset + size, size at most
     ∷ (0x03 ∷ 4 ∷ 6 ∷ 6 ∷ 6 ∷ [])
-    -- ALM_RD: L, octets 4 and 5; ALM_CLR: octets 4 and 5
+    -- ALM_RD: L, the mode; ALM_CLR: the mode
     ∷ (0x05 ∷ 0 ∷ 4 ∷ [])
     ∷ (0x06 ∷ 4 ∷ [])
     -- SYNC_SET
@@ -81,16 +80,24 @@ OctetsOfTheFields =
     ∷ (0x1D ∷ 5 ∷ 6 ∷ 6 ∷ 8 ∷ [])
     ∷ (0x1E ∷ 5 ∷ 6 ∷ 6 ∷ 8 ∷ [])
     ∷ []
+placesOf short =
+    (0x00 ∷ []) ∷ (0x01 ∷ 4 ∷ 6 ∷ 6 ∷ []) ∷ (0x02 ∷ 4 ∷ 6 ∷ 6 ∷ []) ∷ (0x03 ∷ 4 ∷ 6 ∷ 6 ∷ 6 ∷ [])
+    ∷ (0x05 ∷ 4 ∷ []) ∷ (0x06 ∷ 4 ∷ []) ∷ (0x0D ∷ []) ∷ (0x0E ∷ 4 ∷ 5 ∷ 6 ∷ []) ∷ (0x0F ∷ []) ∷ []
+
+abbrev pub OctetsOfTheFields : Type 0
+OctetsOfTheFields =
+    (h : Sheet) (state memory command : List ℕ)
+    → map (λ (r : Row). r .code ∷ dataPlaces (r .checks)) (table h state memory command) ≡ placesOf (h .pdu)
 
 -- "Alarms 8 and 12 and a failed watchdog have place 0", and so has an accepted command, which has alarm 0 as a failed watchdog has
-pub record NoField (state command : List ℕ) (l : Left) : Type 0 where
-  pub by-alarm : oneOf (alarmIn (l .reply)) (0 ∷ 8 ∷ 12 ∷ []) ≡ true → placeIn l ≡ 0
-  pub by-watchdog : missed state command ≡ true → (alarmIn (l .reply) ≡ 0) × (placeIn l ≡ 0)
+pub record NoField (h : Sheet) (state command : List ℕ) (l : Left) : Type 0 where
+  pub by-alarm : oneOf (alarmIn h (l .reply)) (0 ∷ 8 ∷ 12 ∷ []) ≡ true → placeIn l ≡ 0
+  pub by-watchdog : missed h state command ≡ true → (alarmIn h (l .reply) ≡ 0) × (placeIn l ≡ 0)
 
 abbrev pub NoFieldWasWrong : Type 0
 NoFieldWasWrong =
     (h : Sheet) (sheet state memory command reply : List ℕ) → Answered h sheet state memory command reply
-    → NoField state command (exchangeOf sheet state memory command reply)
+    → NoField h state command (exchangeOf sheet state memory command reply)
 
 -- the span that a command of a code asks to be read or written, and the right that it asks
 pub record Asked : Type 0 where
@@ -122,7 +129,7 @@ pub record FirstLacks (cs : List Cell) (q : Asked) (place : ℕ) : Type 0 where
 abbrev pub FirstWithoutTheRight : Type 0
 FirstWithoutTheRight =
     (h : Sheet) (sheet state memory command reply : List ℕ) → Answered h sheet state memory command reply
-    → alarmIn (exchangeOf sheet state memory command reply .reply) ≡ 10
+    → alarmIn h (exchangeOf sheet state memory command reply .reply) ≡ 10
     → Some (λ (q : Asked). (code command ≡ q .code) × FirstLacks (cells (h .regions)) q (placeIn (exchangeOf sheet state memory command reply)))
     (askedSpans h state memory command)
 

@@ -9,18 +9,18 @@ use Rattle.law.specs.State.{link, dual, comTime, mnKnown, lastMn, rsn, commandL
 use Rattle.law.specs.Exchange.{mn}
 use Rattle.slave.specs.Calls.{turnOf}
 use Rattle.slave.specs.Exchange.{Left, exchangeOf}
-use Rattle.demands.specs.Answered.{Answered, alarmIn, toleratedIn}
+use Rattle.demands.specs.Answered.{Answered, alarmIn, toleratedIn, InBody}
 use Rattle.demands.specs.Watchdog.{Asks, BothHold, Exchanged}
 
 -- a command that fails check 1, where it asks
-abbrev pub Misses : List ℕ → List ℕ → Type 0
-Misses state command = BothHold state command → ⊥
+abbrev pub Misses : Sheet → List ℕ → List ℕ → Type 0
+Misses h state command = BothHold h state command → ⊥
 
 -- exchanges in a row of which each fails it
 abbrev pub Failures : Sheet → List ℕ → List ℕ → List ℕ → List Exchanged → Type 0
 Failures h sheet state memory [] = Unit {0}
 Failures h sheet state memory (d ∷ ds) =
-    Answered h sheet state memory (d .command) (d .lent) × Misses state (d .command)
+    Answered h sheet state memory (d .command) (d .lent) × Misses h state (d .command)
     × (let x = exchangeOf sheet state memory (d .command) (d .lent) in Failures h sheet (x .state) (x .memory) ds)
 
 -- the state and the memory behind them
@@ -42,10 +42,10 @@ pub record StillInStep (before after : List ℕ) (n : ℕ) : Type 0 where
   pub counted : failures after ≡ n
 
 -- check 1 as document 01 has it: "the communication latch becomes 12, the command alarm is 0, the link becomes 2", and the count is 0 again
-pub record LeavesLink3 (l : Left) : Type 0 where
+pub record LeavesLink3 (h : Sheet) (l : Left) : Type 0 where
   pub link-2 : link (l .state) ≡ 2
   pub alarm-12 : communicationLatch (l .state) ≡ 12
-  pub no-alarm : alarmIn (l .reply) ≡ 0
+  pub no-alarm : alarmIn h (l .reply) ≡ 0
   pub none-counted : failures (l .state) ≡ 0
 
 -- "allows that many failures in a row ..; one failure more is check 1 as before": from a state with MN known and no failure counted, as many as the sheet
@@ -56,7 +56,7 @@ pub record SoManyInARow : Type 0 where
   pub one-more : (h : Sheet) (sheet state memory : List ℕ) (ds : List Exchanged) (d : Exchanged) → Asks state → failures state ≡ 0
       → Failures h sheet state memory ds → length ds ≡ allows h
       → (let t = stateBehind sheet state memory ds in let m = memoryBehind sheet state memory ds in
-      Answered h sheet t m (d .command) (d .lent) → Misses t (d .command) → LeavesLink3 (exchangeOf sheet t m (d .command) (d .lent)))
+      Answered h sheet t m (d .command) (d .lent) → Misses h t (d .command) → LeavesLink3 h (exchangeOf sheet t m (d .command) (d .lent)))
 
 -- "none without it": a sheet without the record counts no failure, and no reply to it has status bit 1 set
 pub record NoneWithout : Type 0 where
@@ -66,29 +66,29 @@ pub record NoneWithout : Type 0 where
 
 -- a failure that is tolerated: "the command isn't executed, the reply has a zero body, alarm 0 and status bit 1 set, link and latches stay, MN is taken as last
 -- MN and RSN advances"
-pub record Tolerated (state memory command : List ℕ) (l : Left) : Type 0 where
+pub record Tolerated (h : Sheet) (state memory command : List ℕ) (l : Left) : Type 0 where
   pub number-and-place : (l .answer .number ≡ 0) × (l .answer .place ≡ 0)
   pub nothing-stored : l .memory ≡ memory
-  pub zero-body : (k : ℕ) → 4 ≤ k → getD (l .reply) k 0 ≡ 0
-  pub no-alarm : alarmIn (l .reply) ≡ 0
+  pub zero-body : (k : ℕ) → InBody (h .pdu) k → getD (l .reply) k 0 ≡ 0
+  pub no-alarm : alarmIn h (l .reply) ≡ 0
   pub bit-1 : toleratedIn (l .reply) ≡ true
   pub goes-on : StillInStep state (l .state) (failures state + 1)
-  pub last-mn : lastMn (l .state) ≡ mn command
+  pub last-mn : lastMn (l .state) ≡ mn h command
   pub rsn-advances : rsn (l .state) ≡ (rsn state + 1) % 16
 
 -- and it tells nothing of the memory: on any other of the same length it gives the same answer, state and reply
 pub record OneIsTolerated : Type 0 where
-  pub is-tolerated : (h : Sheet) (sheet state memory command reply : List ℕ) → Answered h sheet state memory command reply → Asks state → Misses state command
-      → failures state < allows h → Tolerated state memory command (exchangeOf sheet state memory command reply)
+  pub is-tolerated : (h : Sheet) (sheet state memory command reply : List ℕ) → Answered h sheet state memory command reply → Asks state → Misses h state command
+      → failures state < allows h → Tolerated h state memory command (exchangeOf sheet state memory command reply)
   pub tells-nothing : (h : Sheet) (sheet state memory other command reply : List ℕ) → Answered h sheet state memory command reply → length other ≡ room (h .regions)
-      → Asks state → Misses state command → failures state < allows h
+      → Asks state → Misses h state command → failures state < allows h
       → (let x = exchangeOf sheet state memory command reply in let y = exchangeOf sheet state other command reply in
       (x .answer ≡ y .answer) × (x .state ≡ y .state) × (x .reply ≡ y .reply))
 
 -- "An exchange that passes check 1 sets the count to 0", accepted or refused
 abbrev pub PassingCountsNone : Type 0
 PassingCountsNone =
-    (h : Sheet) (sheet state memory command reply : List ℕ) → Answered h sheet state memory command reply → Asks state → BothHold state command
+    (h : Sheet) (sheet state memory command reply : List ℕ) → Answered h sheet state memory command reply → Asks state → BothHold h state command
     → failures (exchangeOf sheet state memory command reply .state) ≡ 0
 
 -- "A call turns a valid old record into a new one": field by field, and no failure is counted

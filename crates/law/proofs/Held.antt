@@ -152,7 +152,7 @@ heldAt-is (x ∷ xs) m a (suc i) l e none =
     ∙ heldAt-is xs (drop 1 m) a i (omega arith) e (λ j k. none (suc j) (omega arith))
     ∙ getD-drop 1 m i 0 ∙ ap (λ (n : ℕ). getD m n 0) (let z : 1 + i ≡ suc i = omega arith in z)
 
-held-length : (cs : List Cell) (m : List ℕ) (a n : ℕ) → length (held cs m a n) ≡ n
+pub held-length : (cs : List Cell) (m : List ℕ) (a n : ℕ) → length (held cs m a n) ≡ n
 unfolding held
 held-length cs m a zero = refl
 held-length cs m a (suc n) = ap suc (held-length cs m (suc a) n)
