@@ -39,10 +39,10 @@ by-law sheet s m c r l o small law =
     unpacked (exchangeOf sheet s m c r) l (exchange-small sheet s m c r) small (sym promise)
 
 -- what the law asks of a case besides, as a test: its sheet is octets, and the wanted number fits 32 bits
-abbrev octets : List ℕ → Bool
+abbrev pub octets : List ℕ → Bool
 octets s = all (map (λ x. ltb x 256) s)
 
-abbrev fits : Case → Bool
+abbrev pub fits : Case → Bool
 fits k = octets (k .sheet) && ltb (k .want .answer .number) 4294967296
 
 all-octets : (s : List ℕ) → octets s ≡ true → Every IsOctet s
@@ -51,11 +51,11 @@ all-octets (x ∷ s) e =
     let p = and-eq-true-iff (ltb x 256) (octets s) .0 e in
     (ltb-true x 256 (p .0), all-octets s (p .1))
 
-abbrev Law : Case → Type 0
+abbrev pub Law : Case → Type 0
 Law k =
     ByLaw (k .sheet) (λ h x. x ≡ exchange h (k .state) (k .memory) (k .command) old) (λ f place. result f place (k .state) (k .memory) old) (wanted (k .want))
 
-each : (ks : List Case) → all (map fits ks) ≡ true → Every Law ks → map ran ks ≡ map (λ (k : Case). k .want) ks
+pub each : (ks : List Case) → all (map fits ks) ≡ true → Every Law ks → map ran ks ≡ map (λ (k : Case). k .want) ks
 each [] e l = refl
 each (k ∷ ks) e l =
     let p = and-eq-true-iff (fits k) (all (map fits ks)) .0 e in

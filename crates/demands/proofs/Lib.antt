@@ -1,5 +1,6 @@
 -- The proofs of what the owner reads.
 pub mod Bench
+pub mod ShortBench
 pub mod LawBench
 pub mod Histories
 pub mod Refusals

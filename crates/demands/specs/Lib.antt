@@ -17,3 +17,4 @@ pub mod Replays
 pub mod Unique
 pub mod Bench
 pub mod LawBench
+pub mod ShortBench
