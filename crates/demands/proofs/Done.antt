@@ -122,7 +122,7 @@ module _ (h : Sheet) (s m c : List ℕ) (good : GoodLength (h .pdu) (h .l)) wher
   all-further k l (p ∷ ps) all = (let z : k < p .first = omega (arith, all .0) in z, all-further k l ps (all .1))
 
   -- before the body
-  seen-head : (k : ℕ) → k < headSize → getD reply k 0 ≡ laid head k 0
+  pub seen-head : (k : ℕ) → k < headSize → getD reply k 0 ≡ laid head k 0
   seen-head k l = let n = long in seen-at k (omega arith) ∙ laid-before (f .body) k _ (all-further k l (f .body) (fate-body h s m c))
 
   pub seen-code : code reply ≡ code c

@@ -20,6 +20,7 @@ pub mod Places
 pub mod Lacking
 pub mod Watchdog
 pub mod Tolerated
+pub mod Short
 pub mod Turned
 pub mod Shut
 pub mod Replays

@@ -13,6 +13,7 @@ pub mod Mapped
 pub mod Places
 pub mod Watchdog
 pub mod Tolerated
+pub mod Short
 pub mod Replays
 pub mod Unique
 pub mod Bench

@@ -1,0 +1,99 @@
+-- Document 02, request 7: "A bakery keeps drives that speak the 16-octet short type of source document 002, 4.3.1 .. We need the same slave for it, without MEM_RD
+-- and MEM_WR." A sheet selects it by its link record; demands 1 to 3 and the other requests speak of both types.
+use Prim.Native.Nat.{ℕ, _+_, _*_, _%_}
+use mathlib.Core.Bool.{true, false}
+use mathlib.Core.List.{List, [], _∷_}
+use mathlib.Core.Path.{_≡_}
+use lib.Dec.{eqb}
+use lib.ListN.{length, getD, take, drop}
+use Rattle.law.specs.Words.{when, oneOf, octet, numberAt}
+use Rattle.law.specs.Sheet.{PduType, enhanced, short, Sheet, IsOctet, sheetOctets}
+use Rattle.law.specs.State.{link, rsn, communicationLatch}
+use Rattle.law.specs.Exchange.{code, missed, fateOf, lowStatus}
+use Rattle.slave.specs.Exchange.{Left, exchangeOf}
+use Rattle.demands.specs.Answered.{Answered, alarmIn}
+
+-- "in the reply code, alarm, two octets of status, 11 of body, RWDT last"; the body is the table's
+pub record ShortReply (h : Sheet) (state memory command : List ℕ) (l : Left) : Type 0 where
+  pub sixteen : length (l .reply) ≡ 16
+  pub code-again : getD (l .reply) 0 0 ≡ getD command 0 0
+  -- "The command alarm goes in octet 1"
+  pub alarm : getD (l .reply) 1 0 ≡ fateOf h state memory command .alarm
+  -- "the communication latch in bits 12 to 15 of the status, bits 0 and 2 as before, the others 0; no identity is echoed"; bit 1 is request 9's
+  pub low-status : getD (l .reply) 2 0 ≡ lowStatus (l .state)
+  pub high-status : getD (l .reply) 3 0 ≡ 16 * communicationLatch (l .state)
+  pub rwdt-last : getD (l .reply) 15 0 ≡ when (eqb (link (l .state)) 3) (16 * rsn (l .state) + getD command 15 0 % 16) 0
+
+abbrev pub ShortReplies : Type 0
+ShortReplies =
+    (h : Sheet) (sheet state memory command reply : List ℕ) → h .pdu ≡ short → Answered h sheet state memory command reply
+    → ShortReply h state memory command (exchangeOf sheet state memory command reply)
+
+-- "without MEM_RD and MEM_WR": where check 1 does not fail, their codes are unknown, and nothing is stored
+abbrev pub NoMemoryCommands : Type 0
+NoMemoryCommands =
+    (h : Sheet) (sheet state memory command reply : List ℕ) → h .pdu ≡ short → Answered h sheet state memory command reply → missed h state command ≡ false
+    → oneOf (code command) (0x1D ∷ 0x1E ∷ []) ≡ true
+    → (let l = exchangeOf sheet state memory command reply in (alarmIn h (l .reply) ≡ 8) × (l .answer .place ≡ 0) × (l .memory ≡ memory))
+
+-- a short sheet with another profile
+abbrev pub withProfile : Sheet → ℕ → Sheet
+withProfile h profile = record {
+  pdu = short;
+  l = h .l;
+  version = h .version;
+  profile = profile;
+  regions = h .regions;
+  parameters = h .parameters;
+  items = h .items;
+  tolerances = h .tolerances;
+}
+
+-- "one not there isn't checked": whatever profile the sheet has, an exchange leaves the same
+abbrev pub ProfileIsNotChecked : Type 0
+ProfileIsNotChecked =
+    (h : Sheet) (profile other : ℕ) (state memory command reply : List ℕ) → IsOctet other
+    → Answered (withProfile h profile) (sheetOctets (withProfile h profile)) state memory command reply
+    → exchangeOf (sheetOctets (withProfile h profile)) state memory command reply ≡ exchangeOf (sheetOctets (withProfile h other)) state memory command reply
+
+-- a sheet with another type, the rest of it as it is
+abbrev pub typed : PduType → Sheet → Sheet
+typed pdu h = record {
+  pdu = pdu;
+  l = h .l;
+  version = h .version;
+  profile = h .profile;
+  regions = h .regions;
+  parameters = h .parameters;
+  items = h .items;
+  tolerances = h .tolerances;
+}
+
+-- the codes that both types have
+abbrev pub InBothTypes : ℕ → Type 0
+InBothTypes k = oneOf k (0x00 ∷ 0x01 ∷ 0x02 ∷ 0x03 ∷ 0x05 ∷ 0x06 ∷ 0x0D ∷ 0x0E ∷ 0x0F ∷ []) ≡ true
+
+-- a command of the short type and one of the enhanced type with the same code, WDT and fields; the enhanced one has the sheet's profile
+pub record SameFields (h : Sheet) (c d : List ℕ) : Type 0 where
+  pub codes : octet c 0 ≡ octet d 0
+  pub wdts : octet c 15 ≡ octet d 1
+  -- PRM_RD, PRM_WR: number and size; PRM_WR: the data
+  pub numbers : oneOf (octet c 0) (0x01 ∷ 0x02 ∷ []) ≡ true → numberAt c 4 2 ≡ numberAt d 4 2
+  pub sizes : oneOf (octet c 0) (0x01 ∷ 0x02 ∷ []) ≡ true → octet c 6 ≡ octet d 6
+  pub data-octets : octet c 0 ≡ 0x02 → take (octet c 6) (drop 7 c) ≡ take (octet c 6) (drop 8 d)
+  -- ID_RD: code, offset, size
+  pub items : octet c 0 ≡ 0x03 → (octet c 4 ≡ octet d 4) × (octet c 5 ≡ octet d 5) × (octet c 6 ≡ numberAt d 6 2)
+  -- ALM_RD, ALM_CLR: mode
+  pub modes : oneOf (octet c 0) (0x05 ∷ 0x06 ∷ []) ≡ true → octet c 4 ≡ numberAt d 4 2
+  -- CONNECT: version, com_mod, com_time
+  pub connections : octet c 0 ≡ 0x0E → (octet c 4 ≡ octet d 4) × (octet c 5 ≡ octet d 5) × (octet c 6 ≡ octet d 6) × (octet d 7 ≡ h .profile)
+
+-- "States, watchdog, rights and latches are those of the enhanced type": two exchanges from one state and memory, by sheets that differ in the type alone, whose
+-- commands have the same fields, come to the same alarm and place, the same next state and the same memory
+abbrev pub SameFieldsSameFate : Type 0
+SameFieldsSameFate =
+    (h : Sheet) (state memory c d r q : List ℕ)
+    → Answered (typed short h) (sheetOctets (typed short h)) state memory c r → Answered (typed enhanced h) (sheetOctets (typed enhanced h)) state memory d q
+    → SameFields h c d → InBothTypes (code c)
+    → (let x = exchangeOf (sheetOctets (typed short h)) state memory c r in let y = exchangeOf (sheetOctets (typed enhanced h)) state memory d q in
+    (alarmIn (typed short h) (x .reply) ≡ alarmIn (typed enhanced h) (y .reply)) × (x .answer ≡ y .answer) × (x .state ≡ y .state) × (x .memory ≡ y .memory))
