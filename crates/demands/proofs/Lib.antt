@@ -21,6 +21,7 @@ pub mod Lacking
 pub mod Watchdog
 pub mod Tolerated
 pub mod Short
+pub mod SameFields
 pub mod Turned
 pub mod Shut
 pub mod Replays
