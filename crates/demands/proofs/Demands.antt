@@ -1,7 +1,7 @@
 -- The owner's page, proved.
 use Rattle.law.proofs.ByTables.{by-tables, one-reading}
 use Rattle.law.proofs.Promises.{promises}
-use Rattle.demands.specs.Demands.{FirstDemand, SecondDemand, ThirdDemand, IdlePrograms, OnTheBench, Request1, Request3, Request5, Request6, Request8, Request9}
+use Rattle.demands.specs.Demands.{FirstDemand, SecondDemand, ThirdDemand, IdlePrograms, OnTheBench, Request1, Request3, Request5, Request6, Request7, Request8, Request9}
 use Rattle.demands.proofs.Agreed.{traces-have-replies, agrees-exactly}
 use Rattle.demands.proofs.Alone.{refuses-all-keeps-secrets, single-reply-keeps-secrets, stores-nothing-keeps-secrets, echoes-afterwards-keeps-secrets, invents-rsn-keeps-secrets, invents-rsn-agrees-where-reached}
 use Rattle.demands.proofs.Bench.{sheet-p-is-valid, bench-cases}
@@ -20,6 +20,9 @@ use Rattle.demands.proofs.Places.{first-failed-is-told, unknown-code-is
 use Rattle.demands.proofs.Playing.{replay-plays, records-are-answered, secrets-in-whole-replay, refused-replay-writes-nothing}
 use Rattle.demands.proofs.Reached.{secrets-in-replay, only-agreeing-reach}
 use Rattle.demands.proofs.Runs.{refused-changes-nothing, states-stay-valid, memory-keeps-its-length, demand-3}
+use Rattle.demands.proofs.SameFields.{same-fields-same-fate}
+use Rattle.demands.proofs.Short.{short-replies, no-memory-commands, profile-is-not-checked}
+use Rattle.demands.proofs.ShortBench.{short-cases, short-by-law}
 use Rattle.demands.proofs.Shut.{refuses-all-is-shut-out, single-reply-is-shut-out, stores-nothing-is-shut-out, echoes-afterwards-is-shut-out, invents-rsn-is-shut-out}
 use Rattle.demands.proofs.Unique.{one-answers}
 use Rattle.demands.proofs.Tolerated.{so-many-in-a-row, none-without, one-is-tolerated, passing-counts-none}
@@ -92,6 +95,16 @@ request-6 = record {
   hidden-octets-stay-hidden = secrets-in-replay;
   hidden-from-the-whole-replay = secrets-in-whole-replay;
   a-differing-record-reaches-nothing = only-agreeing-reach;
+}
+
+pub request-7 : Request7
+request-7 = record {
+  replies-of-the-short-type = short-replies;
+  without-the-memory-commands = no-memory-commands;
+  the-profile-is-not-checked = profile-is-not-checked;
+  the-same-fields-come-to-the-same = same-fields-same-fate;
+  cases = short-cases;
+  cases-by-the-law = short-by-law;
 }
 
 pub request-8 : Request8
