@@ -1,5 +1,6 @@
 // A difference: the record, its command, why ours is refused or not executed if it is, and the two replies with a mark below the first octet in which they
 // differ.
+use sheet::walk::Layout;
 use sheet::walk::Verdict;
 
 // The marker line, below the digits of the octet.
@@ -20,19 +21,11 @@ fn print_replies(ours: &[u8], reply: &[u8], octet: usize) {
     print_mark(octet);
 }
 
-// How many lost cycles in a row the sheet tolerates. It was found valid before; asked here once more it need not be handed down through every pass.
-fn tolerance(sheet: &[u8]) -> u8 {
-    let verdict = sheet::walk::check(sheet);
-    let Verdict::Valid(layout) = verdict else {
-        return 0;
-    };
-    layout.tolerance
-}
-
 // Our reply, made once more in lent room: state and memory stand as before the record, and nothing uses them afterwards; what the watchdog
 // asks is seen first, since the exchange changes it.
 fn print_ours(
     sheet: &[u8],
+    layout: Layout,
     state: &mut [u8],
     memory: &mut [u8],
     command: &[u8],
@@ -40,13 +33,43 @@ fn print_ours(
     octet: usize,
     room: &mut [u8],
 ) {
-    words::watchdog::print_failed(state, command, tolerance(sheet));
+    let form = layout.form;
+    words::watchdog::print_failed(form, state, command, layout.tolerance);
     let told = slave::exchanging::exchange(sheet, state, memory, command, room);
-    words::refused::print_refused(command, room, told.place);
+    words::refused::print_refused(form, command, room, told.place);
     print_replies(room, reply, octet);
 }
 
-// A record of the trace, counted from 0 as the library counts, and the first octet in which our reply differs.
+// The command and the two replies, by what the sheet says.
+fn print_exchange(
+    sheet: &[u8],
+    layout: Layout,
+    state: &mut [u8],
+    memory: &mut [u8],
+    command: &[u8],
+    reply: &[u8],
+    octet: usize,
+) {
+    let form = layout.form;
+    words::print_command(form, command);
+    let l = reply.len();
+    let mut room = [0u8; 64];
+    if l <= 64 {
+        print_ours(
+            sheet,
+            layout,
+            state,
+            memory,
+            command,
+            reply,
+            octet,
+            &mut room[..l],
+        );
+    }
+}
+
+// A record of the trace, counted from 0 as the library counts, and the first octet in which our reply differs. The sheet was found valid before; asked here
+// once more its layout need not be handed down through every pass.
 pub fn print_difference(
     sheet: &[u8],
     state: &mut [u8],
@@ -61,10 +84,9 @@ pub fn print_difference(
     words::print(b" differs at octet ");
     words::print_number(octet as u64);
     words::print(b"\n");
-    words::print_command(command);
-    let l = reply.len();
-    let mut room = [0u8; 64];
-    if l <= 64 {
-        print_ours(sheet, state, memory, command, reply, octet, &mut room[..l]);
-    }
+    let verdict = sheet::walk::check(sheet);
+    let Verdict::Valid(layout) = verdict else {
+        return;
+    };
+    print_exchange(sheet, layout, state, memory, command, reply, octet);
 }

@@ -18,7 +18,7 @@ use Rattle.sheet.specs.declared.walk.Form.the-variants.{Enhanced, Short}
 use Rattle.frame.specs.Body.{bodyOf, replyOf, Fitting}
 use Rattle.frame.specs.Fields.{commandOf}
 use Rattle.frame.specs.Head.{rwdtOf, missedBit, statusOf, headOf, begunOf}
-use Rattle.frame.specs.Places.{wdtAt, Sized}
+use Rattle.frame.specs.Places.{wdtAt, ownAlarmAt, Sized}
 use Rattle.frame.proofs.Bodies.{laidAt, put-told, twice-length, twice-told, bodyAt, body-told}
 
 -- head and body, built one after the other, are the reply
@@ -75,6 +75,13 @@ lowTold identity next =
 abbrev pub headTold : Form → ℕ → ℕ → ℕ → ℕ → LinkState → List ℕ
 headTold form code wdt identity alarm next =
     code ∷ secondOf form (rwdtTold wdt next) alarm ∷ lowTold identity next ∷ (highAlarm form alarm + 16 * next .latches .communication) ∷ []
+
+-- the alarm can be read back out of the head
+pub own-alarm : (form : Form) (code wdt identity alarm : ℕ) (next : LinkState) → alarm < 16
+    → getD (headTold form code wdt identity alarm next) (ownAlarmAt form) 0 % 16 ≡ alarm
+unfolding ownAlarmAt
+own-alarm Enhanced code wdt identity alarm next small = omega arith
+own-alarm Short code wdt identity alarm next small = omega arith
 
 -- what stands at octet k before the body
 unfoldable pub begunAt : Form → List ℕ → ℕ → ℕ → ℕ

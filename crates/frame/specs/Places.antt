@@ -34,6 +34,11 @@ unfoldable pub wdtAt : Form → ℕ
 wdtAt Enhanced = 1
 wdtAt Short = 15
 
+-- the octet of a reply whose low half is its command's alarm: "bits 8 to 11" of the status; request 7: "The command alarm goes in octet 1"
+unfoldable pub ownAlarmAt : Form → ℕ
+ownAlarmAt Enhanced = 3
+ownAlarmAt Short = 1
+
 -- the named fields end before this octet, and data begins there
 unfoldable pub fieldsEnd : Form → ℕ
 fieldsEnd Enhanced = 8

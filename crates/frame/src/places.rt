@@ -3,7 +3,7 @@ use machine::words::Carrier;
 use machine::words::Field;
 use sheet::walk::Form;
 ghost use mathlib.Core.Path.{_≡_};
-ghost use Rattle.frame.specs.Places.{placeOf, fieldsEnd, alarmsAt, dataFrom, echoFrom, echoSize};
+ghost use Rattle.frame.specs.Places.{placeOf, ownAlarmAt, fieldsEnd, alarmsAt, dataFrom, echoFrom, echoSize};
 
 // The octet at which a field begins; of a span that lacks a right, the octets before the first that lacks it.
 pub fn place_of(field: Field) -> u8
@@ -23,6 +23,16 @@ pub fn place_of(field: Field) -> u8
         Field::Profile => 7,
         Field::AlarmMode => 4,
         Field::Span(before) => before,
+    }
+}
+
+// Where a reply has its own command's alarm, in the octet's low half.
+pub fn own_alarm_at(form: Form) -> usize
+    ensures { λ r. ⌜ r ≡ ownAlarmAt form ⌝ }
+{
+    match form {
+        Form::Enhanced => 3,
+        Form::Short => 1,
     }
 }
 

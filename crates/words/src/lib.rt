@@ -4,6 +4,7 @@ pub mod watchdog; // watchdog.rt: why the watchdog failed
 
 use libc::STDOUT_FILENO;
 use machine::words::Command;
+use sheet::walk::Form;
 
 pub fn print(words: &[u8]) {
     io::write_all(STDOUT_FILENO, words);
@@ -99,19 +100,27 @@ fn print_item(c: Command) {
     print_size(c.count as u64);
 }
 
-// A connection's fields.
-fn print_connection(c: Command) {
+// The mode of an alarm command.
+fn print_alarm_mode(c: Command) {
+    print(b" mode ");
+    print_number(c.alarm_mode as u64);
+}
+
+// A connection's fields; not every type has a profile among them.
+fn print_connection(form: Form, c: Command) {
     print(b" version ");
     print_octet(c.version);
     print(b", com_mod ");
     print_octet(c.com_mod);
     print(b", com_time ");
     print_number(c.com_time as u64);
-    print(b", profile ");
-    print_octet(c.profile);
+    if machine::codes::is_full(form) {
+        print(b", profile ");
+        print_octet(c.profile);
+    }
 }
 
-// A code's name.
+// A known code's name.
 fn print_code(code: u8) {
     match code {
         0x00 => print(b"NOP"),
@@ -124,26 +133,33 @@ fn print_code(code: u8) {
         0x0E => print(b"CONNECT"),
         0x0F => print(b"DISCONNECT"),
         0x1D => print(b"MEM_RD"),
-        0x1E => print(b"MEM_WR"),
-        _ => {
-            print(b"unknown code ");
-            print_octet(code);
-        }
+        _ => print(b"MEM_WR"),
     }
 }
 
-// A command's line: its code's name, and the data that such a command has.
-pub fn print_command(command: &[u8]) {
-    let c = frame::fields::command_of(command);
-    print(b"command: ");
+// A known code's name, and the data that such a command has.
+fn print_known(form: Form, command: &[u8], c: Command) {
     let code = c.code;
     print_code(code);
     match code {
         0x01 | 0x02 => print_parameter(c),
         0x03 => print_item(c),
-        0x0E => print_connection(c),
+        0x05 | 0x06 => print_alarm_mode(c),
+        0x0E => print_connection(form, c),
         0x1D | 0x1E => print_memory(command, c),
         _ => print(b""),
+    }
+}
+
+// A command's line; which codes are known, and where its fields stand, is its type's.
+pub fn print_command(form: Form, command: &[u8]) {
+    let c = frame::fields::command_of(form, command);
+    print(b"command: ");
+    if machine::codes::is_known(form, c.code) {
+        print_known(form, command, c);
+    } else {
+        print(b"unknown code ");
+        print_octet(c.code);
     }
     print(b"\n");
 }

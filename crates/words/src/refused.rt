@@ -1,6 +1,7 @@
 // Why our machine refuses a command, in one line: the alarm, and the octet of the command, or of its span, that was wrong. The fields' names are the kit's.
 use crate::print;
 use crate::print_number;
+use sheet::walk::Form;
 
 // PRM_RD, PRM_WR.
 fn print_parameter_field(place: u32) {
@@ -82,8 +83,8 @@ fn print_reason(code: u8, alarm: u8, place: u32) {
 }
 
 // The line, by our reply and the place that the exchange told; a command without an alarm has none.
-pub fn print_refused(command: &[u8], reply: &[u8], place: u32) {
-    let alarm = octets::octet(reply, 3) % 16;
+pub fn print_refused(form: Form, command: &[u8], reply: &[u8], place: u32) {
+    let alarm = octets::octet(reply, frame::places::own_alarm_at(form)) % 16;
     if alarm == 0 {
         return;
     }

@@ -2,8 +2,9 @@
 // All of it is seen before the exchange, since that changes the state record.
 use crate::print;
 use crate::print_number;
+use sheet::walk::Form;
 
-// Octets of a state record, and the command's WDT.
+// Octets of a state record.
 const AT_LINK: usize = 1;
 
 const AT_KNOWN: usize = 5;
@@ -13,8 +14,6 @@ const AT_LAST: usize = 6;
 const AT_RSN: usize = 7;
 
 const AT_FAILURES: usize = 10;
-
-const AT_WDT: usize = 1;
 
 const IN_STEP: u8 = 3;
 
@@ -60,7 +59,7 @@ fn print_row(failures: u8, tolerance: u8) {
 }
 
 // The line, by the state record before the exchange; a command that the watchdog takes, or that it is not asked of, has none.
-pub fn print_failed(state: &[u8], command: &[u8], tolerance: u8) {
+pub fn print_failed(form: Form, state: &[u8], command: &[u8], tolerance: u8) {
     let link = octets::octet(state, AT_LINK);
     let known = octets::octet(state, AT_KNOWN);
     if link != IN_STEP || known == 0 {
@@ -68,7 +67,8 @@ pub fn print_failed(state: &[u8], command: &[u8], tolerance: u8) {
     }
     let last = octets::octet(state, AT_LAST);
     let rsn = octets::octet(state, AT_RSN);
-    let wdt = octets::octet(command, AT_WDT);
+    let c = frame::fields::command_of(form, command);
+    let wdt = c.wdt;
     let mn = next(last);
     if wdt % 16 == mn && wdt / 16 == rsn {
         return;
