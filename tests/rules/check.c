@@ -1,9 +1,10 @@
 /*
  * check PAGE...: makes the calls of the worked examples on the pages, and fails at the first line that is not what the library does.
  *
- * An example is a fenced block with the word "example"; docs/RULES.md, "Worked examples", says how it is read.  Also asked of all pages
- * together: of each type an accepted example of every command, one of every alarm, of a lost cycle and of a tolerated one; one of
- * every number but 35, which takes a trace of 2^30 octets, one of t24_turn done and refused, and one of t24_version.
+ * An example is a fenced block with the word "example"; docs/RULES.md, "Worked examples", says how it is read.  Also
+ * asked of all pages together: of each type an accepted example of every command, one of every alarm, of a lost cycle and
+ * of a tolerated one; one of every number but 35, which takes a trace of 2^30 octets, one of t24_turn done and refused,
+ * and one of t24_version.
  */
 #include "lent.h"
 
@@ -84,7 +85,8 @@ static void expect_octets(const char *what, const struct octets *have)
     fail(what);
 }
 
-/* What the reply is an example of, by its own octets and not by the kit's helpers: a slip of theirs must not hide one of a page. */
+/* What the reply is an example of, by its own octets and not by the kit's helpers: a slip of theirs must not hide one
+ * of a page. */
 static void count_reply(void)
 {
     const int is_short = sheet.at[0] == SHORT_KIND;
@@ -251,7 +253,8 @@ static void ask_type(int is_short)
 {
     static const uint8_t all_codes[] = {T24_NOP, T24_PRM_RD, T24_PRM_WR, T24_ID_RD, T24_ALM_RD, T24_ALM_CLR,
         T24_SYNC_SET, T24_CONNECT, T24_DISCONNECT, T24_MEM_RD, T24_MEM_WR};
-    static const uint8_t all_alarms[] = {T24_ALARM_NONE, T24_ALARM_CODE, T24_ALARM_DATA, T24_ALARM_RIGHTS, T24_ALARM_LINK};
+    static const uint8_t all_alarms[] = {T24_ALARM_NONE, T24_ALARM_CODE, T24_ALARM_DATA, T24_ALARM_RIGHTS,
+        T24_ALARM_LINK};
 
     page = types[is_short].name;
     for (size_t i = 0; i < sizeof all_codes - (is_short ? 2 : 0); i++)
