@@ -3,6 +3,12 @@
 #define GROUPS_H
 
 #include "lend.h"
+#include "sheets.h"
+
+/* For several groups: every call tells the sheet's fault.  The other buffers
+ * fit L 16, so that only the sheet can be the reason. */
+void sheet_refused(const char *name, const struct built *sheet,
+                   unsigned number, size_t place);
 
 void header_constants(void);
 void header_words(void);
