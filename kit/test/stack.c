@@ -176,9 +176,9 @@ static void measure_exchange(unsigned code, int wrong, int lost)
     memcpy(state, start, sizeof start);
     measure(EXCHANGE);
     must(t24_number(answer) == T24_DONE, "an exchange that is executed");
-    tolerated += (unsigned)t24_reply_tolerated(reply);
-    left += t24_reply_communication_alarm(reply) != 0;
-    if (t24_reply_alarm(reply) != 0)
+    tolerated += (unsigned)t24_reply_tolerated(sheet.octets, reply);
+    left += t24_reply_communication_alarm(sheet.octets, reply) != 0;
+    if (t24_reply_alarm(sheet.octets, reply) != 0)
         refused[code]++;
     else if (!lost)
         accepted[code]++;

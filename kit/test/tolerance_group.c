@@ -77,7 +77,7 @@ void tolerance_places(void)
     behind(T24_RECORD_PARAMETER, 13);
     behind(T24_RECORD_ID, 13);
     behind(T24_RECORD_TOLERANCE, 13);
-    behind(5, 12);
+    behind(T24_RECORD_SHORT_LINK, 13);
     behind(7, 12);
     build_tolerant(&sheet, 16, 1);
     sheet.octets[sheet.len - 1] = T24_RECORD_TOLERANCE;

@@ -27,14 +27,15 @@ static const struct {
     { LINK REGION PARAMETER "03 08 00 00 10 00 00",
       "11 at octet 22: 2nd parameter: 1 of its 8 octets is missing" },
     { LINK "04", "11 at octet 4: 1st ID item: 34 of its 35 octets are missing" },
-    { LINK "05", "12 at octet 4: kind 05 is unknown: a record begins with 00 to 04 "
-      "or 06" },
-    { "FF", "12 at octet 0: kind FF is unknown: a record begins with 00 to 04 or "
-      "06" },
-    { LINK "07 01 00", "12 at octet 4: kind 07 is unknown: a record begins with 00 "
-      "to 04 or 06" },
-    { "02 00", "13 at octet 0: the sheet begins with 02, not with a link record, 01" },
-    { "00", "13 at octet 0: the sheet begins with 00, not with a link record, 01" },
+    { LINK "05", "13 at octet 4: a short link record after a link record: one of "
+      "them comes first and once" },
+    { "FF", "12 at octet 0: kind FF is unknown: a record begins with 00 to 06" },
+    { LINK "07 01 00",
+      "12 at octet 4: kind 07 is unknown: a record begins with 00 to 06" },
+    { "02 00", "13 at octet 0: the sheet begins with 02, not with a link record, 01 "
+      "or 05" },
+    { "00", "13 at octet 0: the sheet begins with 00, not with a link record, 01 or "
+      "05" },
     { LINK LINK, "13 at octet 4: a second link record: it comes first and once" },
     { LINK REGION PARAMETER REGION "00",
       "13 at octet 22: region 2 after a parameter: "
@@ -45,7 +46,8 @@ static const struct {
     { LINK REGION ITEM "03",
       "13 at octet 49: 1st parameter after an ID item: "
       "regions come first, then parameters, then ID items" },
-    { "06 01", "13 at octet 0: the sheet begins with 06, not with a link record, 01" },
+    { "06 01", "13 at octet 0: the sheet begins with 06, not with a link record, 01 "
+      "or 05" },
     { LINK "06 01 06 01 00",
       "13 at octet 6: a second tolerance record: it comes at most once" },
     { LINK "06 00 06",
