@@ -1,6 +1,7 @@
 /* Sheets to test with, put together record by record. */
 #include "sheets.h"
 
+#include <stdio.h>
 #include <string.h>
 
 const uint8_t sheet_p[33] = {
@@ -87,6 +88,18 @@ void add_tolerance(struct built *sheet, unsigned count)
 void add_end(struct built *sheet)
 {
     add_octet(sheet, T24_RECORD_END);
+}
+
+void read_hex(struct built *sheet, const char *hex)
+{
+    unsigned octet;
+    int used;
+
+    sheet->len = 0;
+    while (sscanf(hex, "%2x%n", &octet, &used) == 1) {
+        add_octet(sheet, octet);
+        hex += used;
+    }
 }
 
 void build_p(struct built *sheet, unsigned l)

@@ -28,6 +28,9 @@ void add_item(struct built *sheet, unsigned code, unsigned length);
 void add_tolerance(struct built *sheet, unsigned count);
 void add_end(struct built *sheet);
 
+/* The octets of a line of hex. */
+void read_hex(struct built *sheet, const char *hex);
+
 /* Sheet P with another L. */
 void build_p(struct built *sheet, unsigned l);
 

@@ -83,6 +83,9 @@ void words_fields(void)
                                         rows[i].place, NULL, 0)
               == strlen(rows[i].words), "no room at all");
     }
+    label("nothing lent", 0);
+    same(refused(NULL, 0, 2, NULL, 0, 9, 4),
+         "alarm 9 at octet 4, no field of this command");
 }
 
 /* Whether a row above has this code, alarm 9 and this place. */
@@ -194,7 +197,4 @@ void words_refused_commands(void)
     lacking("alarm 10: octet 4294967295 of the span, at address 1FFFFFFFB, lacks "
             "the right to be written in step", sheet_p, whole, 3, top,
             sizeof top, 0xFFFFFFFFu);
-    label("nothing lent", 0);
-    same(refused(NULL, 0, 2, NULL, 0, 9, 4),
-         "alarm 9 at octet 4, no field of this command");
 }
