@@ -154,7 +154,8 @@ uint64_t t24_replay(const uint8_t *sheet, size_t sheet_len,
 
 /*
  * Turns a state record of release 1 into one of this release, so that a slave
- * goes on where it stood (RULES 8.16).  No other call takes an old record.
+ * goes on where it stood (RULES 8.16).  No other call takes an old record.  One of
+ * release 2 is what it was, and needs no turning.
  * Needs a valid sheet, the old record of T24_OLD_STATE_LEN octets and kind
  * T24_OLD_STATE_KIND, valid in all its fields under this sheet, and
  * T24_STATE_LEN octets for the new one, of any content.
