@@ -64,6 +64,16 @@ test_with_sanitizer() {
     run "$work/boundary-sanitized" || fail "boundary with sanitizer"
 }
 
+# build_objects FOLDER COMPILER SOURCE...: each source compiled once, for several programs.
+build_objects() {
+    folder=$1 compiler=$2
+    shift 2
+    mkdir "$folder"
+    for source in "$@"; do
+        $compiler -c "$source" -o "$folder/${source%.c}.o"
+    done
+}
+
 # With every buffer in a block of its own a checker sees an overrun of one octet.
 test_with_checkers() {
     if [ -z "$at_hand" ]; then
@@ -71,22 +81,25 @@ test_with_checkers() {
         return
     fi
     need_checkers
-    blocks="gcc -std=c99 -O2 -g $WARN -I$dist/include $BLOCKS"
+    blocks="gcc -std=c99 -O2 -g $WARN -I$dist/include"
+    address="$blocks $UNDEFINED -fsanitize=address"
     say "boundary, C99, valgrind"
-    $blocks "$work/at-hand.a" -o "$work/boundary-valgrind"
+    build_objects "$work/blocks" "$blocks" $BLOCKS
+    $blocks "$work/blocks"/*.o "$work/at-hand.a" -o "$work/boundary-valgrind"
     $CHECKED "$work/boundary-valgrind" || fail "boundary under valgrind"
     say "boundary, C99, address and undefined sanitizers"
-    $blocks $UNDEFINED -fsanitize=address "$work/at-hand.a" -o "$work/boundary-address"
+    build_objects "$work/address" "$address" $BLOCKS
+    $address "$work/address"/*.o "$work/at-hand.a" -o "$work/boundary-address"
     "$work/boundary-address" || fail "boundary with the address sanitizer"
     say "both can fail"
     first="$CHECKED --exit-on-first-error=yes"
-    $blocks spoil.c spoil_turn.c "$work/at-hand.a" $(wraps) -o "$work/spoiled-blocks"
+    $blocks "$work/blocks"/*.o spoil.c spoil_turn.c "$work/at-hand.a" $(wraps) -o "$work/spoiled-blocks"
     must_fail "an octet written behind a reply" "Invalid write" env SPOIL=9 $first "$work/spoiled-blocks"
     must_fail "an octet written before a reply" "Invalid write" env SPOIL=10 $first "$work/spoiled-blocks"
     must_fail "an octet read behind a command" "Invalid read" env SPOIL=12 $first "$work/spoiled-blocks"
     must_fail "an octet read behind a trace" "Invalid read" env SPOIL=19 $first "$work/spoiled-blocks"
     must_fail "an octet read behind an old record" "Invalid read" env SPOIL=54 $first "$work/spoiled-blocks"
-    $blocks spoil.c spoil_turn.c $UNDEFINED -fsanitize=address "$work/at-hand.a" $(wraps) -o "$work/spoiled-address"
+    $address "$work/address"/*.o spoil.c spoil_turn.c "$work/at-hand.a" $(wraps) -o "$work/spoiled-address"
     must_fail "an octet written behind a reply, by the sanitizer" "heap-buffer-overflow" env SPOIL=9 "$work/spoiled-address"
 }
 
@@ -99,9 +112,12 @@ wraps() {
 
 test_that_tests_fail() {
     say "the tests can fail"
-    $HAND -static -DWRONG_EXPECTATION $SOURCES $HAND_LIB -o "$work/wrong"
+    build_objects "$work/objects" "$HAND" $SOURCES
+    cp -r "$work/objects" "$work/wrong-objects"
+    $HAND -DWRONG_EXPECTATION -c boundary.c -o "$work/wrong-objects/boundary.o"
+    $HAND -static "$work/wrong-objects"/*.o $HAND_LIB -o "$work/wrong"
     must_fail "a wrong expectation" FAILED hand "$work/wrong" stop
-    $HAND -static $SOURCES spoil.c spoil_turn.c $HAND_LIB $(wraps) -o "$work/spoiled"
+    $HAND -static "$work/objects"/*.o spoil.c spoil_turn.c $HAND_LIB $(wraps) -o "$work/spoiled"
     export SPOIL=0
     hand "$work/spoiled" stop >"$work/out" || fail "unspoiled, yet fails"
     number=0
@@ -113,14 +129,6 @@ test_that_tests_fail() {
     unset SPOIL
 }
 
-# build_objects: every source compiled once, so that a wrong header costs no more than the sources that use it.
-build_objects() {
-    mkdir "$work/objects"
-    for source in $SOURCES; do
-        $HAND_CC -std=c99 -I"$dist/include" -c "$source" -o "$work/objects/${source%.c}.o"
-    done
-}
-
 # users HEADER: the sources that name something it defines, or that have the words.
 users() {
     sed -n -e 's/^#define \(T24_[A-Z0-9_]*\).*/\1/p' -e 's/^static inline .*[ *]\(t24_[a-z0-9_]*\)(.*/\1/p' \
@@ -129,7 +137,7 @@ users() {
     grep -lwFf "$work/names" $SOURCES
 }
 
-# wrong_words NAME HEADER EDIT: the tests notice a header with this edit.
+# wrong_words NAME HEADER EDIT: the tests notice a header with this edit, for which no more is compiled again than what uses it.
 wrong_words() {
     rm -rf "$work/wrong-include" "$work/wrong-objects"
     cp -r "$dist/include" "$work/wrong-include"
@@ -145,7 +153,6 @@ wrong_words() {
 
 test_that_words_fail() {
     say "wrong words are noticed"
-    build_objects
     wrong_words "a cut record taken for whole" type24_walk.h \
         's/if (len == 0 || len > left)/if (len == 0)/'
     wrong_words "a field of a cut record" type24_sheet_words.h \
