@@ -20,9 +20,9 @@ struct t24_data_check {
     const char *field, *fault;
 };
 
-#define T24_ENHANCED 1u
-#define T24_SHORT 2u
-#define T24_BOTH (T24_ENHANCED | T24_SHORT)
+#define T24_IN_ENHANCED 1u
+#define T24_IN_SHORT 2u
+#define T24_IN_BOTH (T24_IN_ENHANCED | T24_IN_SHORT)
 #define T24_NO_FIELD "no field of this command"
 
 /* A write has the checks of its read; its row stands for both. */
@@ -37,34 +37,34 @@ static inline uint32_t t24_checked_as(uint32_t code)
 static inline const struct t24_data_check *t24_data_check_row(size_t row)
 {
     static const struct t24_data_check checks[] = {
-        { T24_BOTH, T24_PRM_RD, T24_PRM_AT_NUMBER, "parameter number",
+        { T24_IN_BOTH, T24_PRM_RD, T24_PRM_AT_NUMBER, "parameter number",
           "not in the sheet" },
-        { T24_ENHANCED, T24_PRM_RD, T24_PRM_AT_SIZE, "size",
+        { T24_IN_ENHANCED, T24_PRM_RD, T24_PRM_AT_SIZE, "size",
           "not the parameter's, or more than L - 8" },
-        { T24_SHORT, T24_PRM_RD, T24_PRM_AT_SIZE, "size",
+        { T24_IN_SHORT, T24_PRM_RD, T24_PRM_AT_SIZE, "size",
           "not the parameter's, or more than 8" },
-        { T24_BOTH, T24_ID_RD, T24_ID_AT_CODE, "ID code", "not in the sheet" },
-        { T24_ENHANCED, T24_ID_RD, T24_ID_AT_SIZE, "size",
+        { T24_IN_BOTH, T24_ID_RD, T24_ID_AT_CODE, "ID code", "not in the sheet" },
+        { T24_IN_ENHANCED, T24_ID_RD, T24_ID_AT_SIZE, "size",
           "0, past the item's end, or more than L - 8" },
-        { T24_SHORT, T24_ID_RD, T24_ID_AT_SIZE, "size",
+        { T24_IN_SHORT, T24_ID_RD, T24_ID_AT_SIZE, "size",
           "0, past the item's end, or more than 8" },
-        { T24_ENHANCED, T24_ALM_RD, T24_COMMAND_AT_CODE, "L",
+        { T24_IN_ENHANCED, T24_ALM_RD, T24_COMMAND_AT_CODE, "L",
           "ALM_RD needs 16 or more" },
-        { T24_BOTH, T24_ALM_RD, T24_ALM_AT_MODE, "mode", "not 0" },
-        { T24_BOTH, T24_ALM_CLR, T24_ALM_AT_MODE, "mode", "not 0" },
-        { T24_BOTH, T24_CONNECT, T24_CONNECT_AT_VERSION, "version",
+        { T24_IN_BOTH, T24_ALM_RD, T24_ALM_AT_MODE, "mode", "not 0" },
+        { T24_IN_BOTH, T24_ALM_CLR, T24_ALM_AT_MODE, "mode", "not 0" },
+        { T24_IN_BOTH, T24_CONNECT, T24_CONNECT_AT_VERSION, "version",
           "not the sheet's" },
-        { T24_BOTH, T24_CONNECT, T24_CONNECT_AT_COM_MOD, "com_mod",
+        { T24_IN_BOTH, T24_CONNECT, T24_CONNECT_AT_COM_MOD, "com_mod",
           "not 00, 02 or 06" },
-        { T24_BOTH, T24_CONNECT, T24_CONNECT_AT_COM_TIME, "com_time",
+        { T24_IN_BOTH, T24_CONNECT, T24_CONNECT_AT_COM_TIME, "com_time",
           "0, or 1 with dual transfer" },
-        { T24_ENHANCED, T24_CONNECT, T24_CONNECT_AT_PROFILE, "profile",
+        { T24_IN_ENHANCED, T24_CONNECT, T24_CONNECT_AT_PROFILE, "profile",
           "not the sheet's" },
-        { T24_ENHANCED, T24_MEM_RD, T24_MEM_AT_ELEMENT, "element",
+        { T24_IN_ENHANCED, T24_MEM_RD, T24_MEM_AT_ELEMENT, "element",
           "not 11, 21 or 31" },
-        { T24_ENHANCED, T24_MEM_RD, T24_MEM_AT_COUNT, "count",
+        { T24_IN_ENHANCED, T24_MEM_RD, T24_MEM_AT_COUNT, "count",
           "0, or with its element more than L - 12 octets" },
-        { T24_ENHANCED, T24_MEM_RD, T24_MEM_AT_ADDRESS, "address",
+        { T24_IN_ENHANCED, T24_MEM_RD, T24_MEM_AT_ADDRESS, "address",
           "an octet from it on is in no region" }
     };
 
@@ -75,7 +75,7 @@ static inline const struct t24_data_check *t24_data_check_row(size_t row)
 static inline const struct t24_data_check *t24_data_check_at(
     const uint8_t *sheet, uint32_t code, uint32_t place)
 {
-    const uint32_t type = t24_is_short(sheet) ? T24_SHORT : T24_ENHANCED;
+    const uint32_t type = t24_is_short(sheet) ? T24_IN_SHORT : T24_IN_ENHANCED;
     const struct t24_data_check *check;
     size_t row;
 

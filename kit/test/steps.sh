@@ -242,7 +242,7 @@ test_that_short_fails() {
     wrong_words "a type asked of a sheet that is not lent" type24_pdu_words.h \
         's/return sheet_len > 0 ? sheet : none;/(void)none; return sheet;/'
     wrong_words "a profile checked in the short type" type24_field_words.h \
-        's/{ T24_ENHANCED, T24_CONNECT, T24_CONNECT_AT_PROFILE/{ T24_BOTH, T24_CONNECT, T24_CONNECT_AT_PROFILE/'
+        's/{ T24_IN_ENHANCED, T24_CONNECT, T24_CONNECT_AT_PROFILE/{ T24_IN_BOTH, T24_CONNECT, T24_CONNECT_AT_PROFILE/'
     wrong_words "data of a short reply told at 8" type24_octet_words.h \
         's/octet < t24_prm_data_at(sheet)/octet < T24_PRM_AT_DATA/'
     wrong_words "an L of the enhanced type told as the short type's" type24_range_words.h \

@@ -31,7 +31,8 @@ static void random_command(uint8_t *command)
     for (i = 1; i < 16; i++)
         command[i] = below(4) != 0 ? likely[below(10)] : (uint8_t)below(256);
     command[0] = codes[below(12)];
-    if (below(2) == 0) { /* parameter 7 as it is */
+    if (below(2) == 0) { /* parameter 7 as it is; a write may lack the right */
+        command[0] = below(2) == 0 ? T24_PRM_WR : command[0];
         command[4] = 7;
         command[5] = 0;
         command[6] = 2;
@@ -95,6 +96,20 @@ static void words_of(const uint8_t *command, const uint8_t *state,
                                T24_NO_FIELD) != 0, "no field of alarm 9");
 }
 
+/* Words that need no command: for any code, alarm, place and octet, by a sheet of
+ * which the first octet is lent alone. */
+static void words_of_any(void)
+{
+    const uint8_t *lent = place(SHEET, sheet.octets, 1, 1);
+    const uint32_t code = below(260), octet = below(70);
+
+    check(t24_code_words(lent, code)[0] != '\0', "a name for any code");
+    check(t24_octet_words(lent, code, octet)[0] != '\0', "any octet");
+    check(t24_reply_octet_words(lent, code, octet, (int)below(2))[0] != '\0',
+          "any octet, executed or not");
+    check(t24_field_words(lent, code, below(16), octet)[0] != '\0', "any field");
+}
+
 /* The helpers' verdict beside the library's. */
 static unsigned verdict(const uint8_t *command, const uint8_t *before,
                         const uint8_t *after, const uint8_t *reply)
@@ -142,6 +157,7 @@ void words_short_random(void)
         check(t24_number(answer) == T24_DONE, "a reply");
         seen[verdict(command, before, after, reply) & 15u]++;
         words_of(command, before, reply, answer);
+        words_of_any();
     }
     for (i = 0; i < 16; i++) {
         label("alarm, or 1 for a lost cycle", (long)i);
