@@ -6,7 +6,7 @@
  * archive of another may lend buffers of other lengths than the archive asks for,
  * as one of release 1 does: every call then answers a number and writes nothing.
  * Or it reads the wrong octet of a reply, as one of release 2 does of the short
- * type's.  t24_release_fits() says so, before the first call (RULES 8.15).
+ * type's.  t24_release_fits() says so, before the first call (RULES 8.15 to 8.19).
  */
 #ifndef TYPE24_RELEASE_H
 #define TYPE24_RELEASE_H

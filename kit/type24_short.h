@@ -4,7 +4,7 @@
  * may be of either type.  Comes with type24.h.
  *
  * A sheet that begins with T24_RECORD_SHORT_LINK selects the short type, of L 16
- * (RULES 2.3).  Links, watchdog, rights, latches and alarms are those of the
+ * (RULES 7.14).  Links, watchdog, rights, latches and alarms are those of the
  * enhanced type, and so are its codes, but MEM_RD and MEM_WR are unknown here.  A
  * place that is the same number in both types has one constant, in
  * type24_octets.h.
@@ -18,7 +18,7 @@
 #include "type24_octets.h"
 
 /*
- * Every command of the short type has 16 octets:
+ * Every command of the short type has 16 octets (RULES 7.15):
  *   0     the code, T24_COMMAND_AT_CODE
  *   1-3   reserve, not looked at: there is no identity
  *   4-14  the fields named with the command; others are not looked at
@@ -27,7 +27,7 @@
 #define T24_SHORT_COMMAND_AT_WDT 15
 
 /*
- * Every reply of the short type has 16 octets:
+ * Every reply of the short type has 16 octets (RULES 7.15 and 7.16):
  *   0     the code again, T24_REPLY_AT_CODE
  *   1     this command's alarm; t24_reply_alarm() tells it
  *   2     T24_STATUS_ALWAYS, T24_STATUS_LATCHED while a latch is not 0, and
@@ -43,15 +43,18 @@
 #define T24_SHORT_REPLY_AT_RWDT 15
 
 /*
- * PRM_RD, PRM_WR: 4-5 number and 6 size as in the enhanced type, but the size is
- * at most T24_SHORT_DATA_MAX; 7.. PRM_WR: size octets to write.
+ * The commands, with their links and places as in the enhanced type (RULES 7.17
+ * and 7.18).
+ *
+ * PRM_RD, PRM_WR: 4-5 number and 6 size as there, but the size is at most
+ * T24_SHORT_DATA_MAX; 7.. PRM_WR: size octets to write.
  * Body: 4 to 6 again; from 7 on the octets read or written.
  */
 #define T24_SHORT_PRM_AT_DATA 7
 #define T24_SHORT_DATA_MAX 8
 
 /*
- * ID_RD: 4 code and 5 offset as in the enhanced type; 6 size, one octet, 1 to
+ * ID_RD: 4 code and 5 offset as there; 6 size, one octet, 1 to
  * T24_SHORT_DATA_MAX, offset + size at most the item's length.
  * Body: 4 to 6 again; from 7 on the octets read.
  */
@@ -66,8 +69,8 @@
 #define T24_SHORT_ALM_AT_COMMUNICATION 6
 
 /*
- * CONNECT: 4 version, 5 com_mod and 6 com_time as in the enhanced type.  There is
- * no profile, so that none is checked; body: 4 to 6 again.
+ * CONNECT: 4 version, 5 com_mod and 6 com_time as there.  There is no profile, so
+ * that none is checked; body: 4 to 6 again.
  * NOP, SYNC_SET and DISCONNECT have no field and no body here either.
  */
 
