@@ -73,7 +73,7 @@ static int differs(struct replay *run, size_t record, size_t octet)
 {
     const size_t at = record * run->size;
     const uint8_t *command = run->trace.octets + at + T24_TRACE_AT_COMMAND;
-    const uint8_t *theirs = command + run->l;
+    const uint8_t *theirs = command + run->l, *sheet = run->sheet.octets;
     uint8_t ours[T24_L_MAX];
     char words[256];
     uint64_t answer;
@@ -82,12 +82,12 @@ static int differs(struct replay *run, size_t record, size_t octet)
     printf("record %lu, at octet %lu of the trace, differs at octet %lu of its "
            "reply\n", (unsigned long)record, (unsigned long)at,
            (unsigned long)octet);
-    t24_command_words(command, run->l, words, sizeof words);
+    t24_command_words(sheet, command, run->l, words, sizeof words);
     printf("command: %s\n", words);
     t24_state_words(run->state.octets, words, sizeof words);
     printf("before:  %s\n", words);
     lost = print_lost(run, command);
-    answer = t24_exchange(run->sheet.octets, run->sheet.len, run->state.octets,
+    answer = t24_exchange(sheet, run->sheet.len, run->state.octets,
                           run->state.len, run->memory.octets, run->memory.len,
                           command, run->l, ours, run->l);
     print_refused(run, command, ours, answer);
@@ -95,10 +95,10 @@ static int differs(struct replay *run, size_t record, size_t octet)
     print_octets("trace: ", theirs, run->l);
     print_marks(ours, theirs, run->l);
     printf("octet %lu: %s\n", (unsigned long)octet,
-           t24_reply_octet_words(command[T24_COMMAND_AT_CODE], octet,
-                                 !lost && t24_reply_alarm(ours) == 0));
-    print_status("ours:  ", ours);
-    print_status("trace: ", theirs);
+           t24_reply_octet_words(sheet, command[T24_COMMAND_AT_CODE], octet,
+                                 !lost && t24_reply_alarm(sheet, ours) == 0));
+    print_status("ours:  ", sheet, ours);
+    print_status("trace: ", sheet, theirs);
     return DIFFERS;
 }
 
@@ -109,6 +109,7 @@ static size_t count_tolerated(const struct replay *run)
 
     for (at = 0; at < run->trace.len; at += run->size)
         count += (size_t)t24_reply_tolerated(
+            run->sheet.octets,
             run->trace.octets + at + T24_TRACE_AT_COMMAND + run->l);
     return count;
 }

@@ -16,11 +16,12 @@ static void print_octets(const char *whose, const uint8_t *octets, size_t len)
     printf("\n");
 }
 
-static void print_status(const char *whose, const uint8_t *reply)
+static void print_status(const char *whose, const uint8_t *sheet,
+                         const uint8_t *reply)
 {
     char words[256];
 
-    t24_status_words(reply, words, sizeof words);
+    t24_status_words(sheet, reply, words, sizeof words);
     printf("%s%s\n", whose, words);
 }
 

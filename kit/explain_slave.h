@@ -89,7 +89,7 @@ static int print_lost(const struct replay *run, const uint8_t *command)
 {
     char words[256];
 
-    if (!t24_watchdog_fails(run->state.octets, command))
+    if (!t24_watchdog_fails(run->sheet.octets, run->state.octets, command))
         return 0;
     t24_lost_words(run->sheet.octets, run->sheet.len, run->state.octets,
                    command, words, sizeof words);
@@ -101,7 +101,7 @@ static int print_lost(const struct replay *run, const uint8_t *command)
 static void print_refused(const struct replay *run, const uint8_t *command,
                           const uint8_t *ours, uint64_t answer)
 {
-    const uint32_t alarm = t24_reply_alarm(ours);
+    const uint32_t alarm = t24_reply_alarm(run->sheet.octets, ours);
     char words[256];
 
     if (alarm == T24_ALARM_NONE)

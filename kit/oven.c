@@ -2,6 +2,8 @@
  * oven SHEET: a host for the Type 24 slave, the drive of an oven's band.
  * Brings the slave up with a device sheet from a file and gives it commands.
  * In a drive, t24_exchange stands in the cycle and commands come by wire.
+ * The sheet may be of either type: where an octet stands that the two have at
+ * different places, the helpers know, and the host need not.
  */
 #include <errno.h>
 #include <stdio.h>
@@ -88,8 +90,9 @@ static int bring_up(struct host *host)
         perror("memory");
         return 0;
     }
-    printf("L %lu, memory %lu octets\n", (unsigned long)host->l,
-           (unsigned long)host->memory_len);
+    printf("%sL %lu, memory %lu octets\n",
+           t24_is_short(host->sheet) ? "short type, " : "",
+           (unsigned long)host->l, (unsigned long)host->memory_len);
     return done(host, "reset", t24_reset(host->sheet, host->sheet_len,
                                          host->state, sizeof host->state))
         && done(host, "enable", t24_enable(host->sheet, host->sheet_len,
@@ -124,8 +127,10 @@ static int lost(const struct host *host, const char *name,
 }
 
 /* One exchange; tells 1 if the command was accepted and executed. */
-static int exchange(struct host *host, const char *name)
+static int exchange(struct host *host)
 {
+    const char *name =
+        t24_code_words(host->sheet, host->command[T24_COMMAND_AT_CODE]);
     uint8_t before[T24_STATE_LEN]; /* the exchange changes the state */
     uint64_t answer;
     uint32_t alarm;
@@ -142,9 +147,9 @@ static int exchange(struct host *host, const char *name)
         printf("%02X", host->reply[i]);
     printf("\n");
     fflush(stdout);
-    if (t24_watchdog_fails(before, host->command))
+    if (t24_watchdog_fails(host->sheet, before, host->command))
         return lost(host, name, before);
-    alarm = t24_reply_alarm(host->reply);
+    alarm = t24_reply_alarm(host->sheet, host->reply);
     return alarm == T24_ALARM_NONE || refused(host, name, alarm, answer);
 }
 
@@ -154,11 +159,13 @@ static uint8_t *command(struct host *host, uint8_t code)
 {
     memset(host->command, 0, sizeof host->command);
     host->command[T24_COMMAND_AT_CODE] = code;
-    host->command[T24_COMMAND_AT_WDT] = t24_next_wdt(host->reply);
+    t24_put_wdt(host->sheet, host->command,
+                t24_next_wdt(host->sheet, host->reply));
     return host->command;
 }
 
-/* MEM_RD or MEM_WR of one 2-octet element at an address of the sheet. */
+/* MEM_RD or MEM_WR of one 2-octet element at an address of the sheet; tells where
+ * the data stands. */
 static uint8_t *memory_command(struct host *host, uint8_t code, uint32_t address)
 {
     uint8_t *octets = command(host, code);
@@ -168,7 +175,39 @@ static uint8_t *memory_command(struct host *host, uint8_t code, uint32_t address
     octets[T24_MEM_AT_COUNT] = 1;
     for (i = 0; i < 4; i++, address >>= 8)
         octets[T24_MEM_AT_ADDRESS + i] = (uint8_t)(address & 0xFFu);
-    return octets;
+    return octets + T24_MEM_AT_DATA;
+}
+
+/* PRM_RD or PRM_WR of a parameter of 2 octets; tells where the data stands. */
+static uint8_t *parameter_command(struct host *host, uint8_t code,
+                                  uint8_t number)
+{
+    uint8_t *octets = command(host, code);
+
+    octets[T24_PRM_AT_NUMBER] = number;
+    octets[T24_PRM_AT_SIZE] = 2;
+    return octets + t24_prm_data_at(host->sheet);
+}
+
+/* Reads or sets the heat by its address, but as parameter 7 in the short type,
+ * which has no memory commands; tells where the data stands. */
+static uint8_t *heat_command(struct host *host, int sets)
+{
+    if (t24_is_short(host->sheet))
+        return parameter_command(host, sets ? T24_PRM_WR : T24_PRM_RD, 7);
+    return memory_command(host, sets ? T24_MEM_WR : T24_MEM_RD, 0x1000);
+}
+
+static int read_heat(struct host *host)
+{
+    heat_command(host, 0);
+    return exchange(host);
+}
+
+static int set_heat(struct host *host, uint8_t degrees)
+{
+    heat_command(host, 1)[0] = degrees; /* low octet first */
+    return exchange(host);
 }
 
 /* By com_mod out of step or in step. */
@@ -179,27 +218,24 @@ static int connect_by(struct host *host, uint8_t com_mod)
     octets[T24_CONNECT_AT_VERSION] = host->sheet[T24_SHEET_AT_VERSION];
     octets[T24_CONNECT_AT_COM_MOD] = com_mod;
     octets[T24_CONNECT_AT_COM_TIME] = 1;
-    octets[T24_CONNECT_AT_PROFILE] = host->sheet[T24_SHEET_AT_PROFILE];
-    return exchange(host, "CONNECT");
+    if (!t24_is_short(host->sheet)) /* the short type has no profile */
+        octets[T24_CONNECT_AT_PROFILE] = host->sheet[T24_SHEET_AT_PROFILE];
+    return exchange(host);
 }
 
 static int disconnect(struct host *host)
 {
     command(host, T24_DISCONNECT);
-    return exchange(host, "DISCONNECT");
+    return exchange(host);
 }
 
 /* Out of step: the oven is set. */
 static int bake(struct host *host)
 {
-    uint8_t *octets;
     int accepted = connect_by(host, 0);
 
-    memory_command(host, T24_MEM_RD, 0x1000);
-    accepted = exchange(host, "MEM_RD") && accepted;
-    octets = memory_command(host, T24_MEM_WR, 0x1000);
-    octets[T24_MEM_AT_DATA] = 0xB4; /* 180 degrees, low octet first */
-    accepted = exchange(host, "MEM_WR") && accepted;
+    accepted = read_heat(host) && accepted;
+    accepted = set_heat(host, 180) && accepted;
     return disconnect(host) && accepted;
 }
 
@@ -208,10 +244,8 @@ static int run_band(struct host *host)
 {
     int cycle, accepted = connect_by(host, T24_COM_SYNC);
 
-    for (cycle = 0; cycle < 3; cycle++) {
-        memory_command(host, T24_MEM_RD, 0x1000);
-        accepted = exchange(host, "MEM_RD") && accepted;
-    }
+    for (cycle = 0; cycle < 3; cycle++)
+        accepted = read_heat(host) && accepted;
     return disconnect(host) && accepted;
 }
 

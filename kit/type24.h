@@ -2,7 +2,8 @@
  * type24.h - the Type 24 fieldbus slave of Hishvundar, called from C or C++.
  *
  * Built: the slave end of cyclic communication of IEC 61158-6-24, enhanced
- * PDU type, PDU length L of 8, 16, 32, 48 or 64 octets.
+ * PDU type, PDU length L of 8, 16, 32, 48 or 64 octets, and short PDU type, L 16.
+ * The sheet's link record selects the type.
  *
  * Everything goes over octet buffers that the host lends for one call, each
  * with its length, so no struct layout is shared.  Rules for every call:
@@ -23,6 +24,7 @@
  *   type24_release.h   of which release headers and archive are
  *   type24_octets.h    lengths; the octets of sheet, state record, commands,
  *                      replies and traces
+ *   type24_short.h     the octets of the short type; which type a sheet selects
  *   type24_records.h   how long a sheet's records are, and what one tolerates
  *   type24_answers.h   what a call answers: its number, its place, in words
  *   type24_reply.h     what a reply tells: its alarm, a lost cycle, identity
@@ -42,6 +44,7 @@
 #include "type24_records.h"
 #include "type24_release.h"
 #include "type24_reply.h"
+#include "type24_short.h"
 #include "type24_watchdog.h"
 
 #ifdef __cplusplus
@@ -104,13 +107,15 @@ uint64_t t24_enable(const uint8_t *sheet, size_t sheet_len,
  * it: see t24_reply_alarm() and t24_reply_communication_alarm().  Or its cycle
  * was lost and it was not executed: as often in a row as the sheet tolerates,
  * t24_reply_tolerated() tells that; one more leaves SyncConnected (RULES 6.4).
- * Whose reply it is among repeated commands, t24_reply_identity() tells.
+ * Whose reply it is among repeated commands, t24_reply_identity() tells, of the
+ * enhanced type alone.  These take the sheet first, and so a host need not know
+ * where an octet stands that the two types have at different places.
  * Beside T24_DONE the place says what was wrong (RULES 8.11); so a host asks
  * t24_number(answer), and not answer, whether a reply was built.  It is for
  *  - alarm 9 the first octet of the first field that is wrong: T24_PRM_AT_NUMBER
  *    or _SIZE, T24_ID_AT_CODE or _SIZE, T24_ALM_AT_MODE, T24_CONNECT_AT_VERSION,
  *    _COM_MOD, _COM_TIME or _PROFILE, T24_MEM_AT_ELEMENT, _COUNT or _ADDRESS;
- *    but 0 for ALM_RD at L 8;
+ *    but 0 for ALM_RD at L 8; in the short type the same, as far as it has them;
  *  - alarm 10 how many octets of the span come before the first that lacks the
  *    right, so that the span's address + place is the address of that one;
  *  - alarms 8 and 12, a lost cycle, tolerated or not, and an accepted command 0.
@@ -149,7 +154,8 @@ uint64_t t24_replay(const uint8_t *sheet, size_t sheet_len,
 
 /*
  * Turns a state record of release 1 into one of this release, so that a slave
- * goes on where it stood (RULES 8.16).  No other call takes an old record.
+ * goes on where it stood (RULES 8.16).  No other call takes an old record.  One of
+ * release 2 is what it was, and needs no turning.
  * Needs a valid sheet, the old record of T24_OLD_STATE_LEN octets and kind
  * T24_OLD_STATE_KIND, valid in all its fields under this sheet, and
  * T24_STATE_LEN octets for the new one, of any content.

@@ -3,7 +3,7 @@
  * (RULES 8.11).  Comes with type24_words.h.
  *
  * Any code, alarm and place may be given: what no refusal has gets words that
- * say so.
+ * say so.  Of the sheet the first octet tells the type.
  */
 #ifndef TYPE24_FIELD_WORDS_H
 #define TYPE24_FIELD_WORDS_H
@@ -13,12 +13,16 @@
 #include "type24_text.h"
 #include "type24_walk.h"
 
-/* A check of a command's data: its place, the field, and what is wrong. */
+/* A check of a command's data: the types that have it, its place, the field, and
+ * what is wrong. */
 struct t24_data_check {
-    uint32_t code, place;
+    uint32_t types, code, place;
     const char *field, *fault;
 };
 
+#define T24_IN_ENHANCED 1u
+#define T24_IN_SHORT 2u
+#define T24_IN_BOTH (T24_IN_ENHANCED | T24_IN_SHORT)
 #define T24_NO_FIELD "no field of this command"
 
 /* A write has the checks of its read; its row stands for both. */
@@ -29,47 +33,64 @@ static inline uint32_t t24_checked_as(uint32_t code)
     return code == T24_MEM_WR ? T24_MEM_RD : code;
 }
 
-/* The check of a code that has this place, or NULL: alarm 9, row by row. */
-static inline const struct t24_data_check *t24_data_check_at(uint32_t code,
-                                                             uint32_t place)
+/* The checks with alarm 9, row by row; NULL behind the last. */
+static inline const struct t24_data_check *t24_data_check_row(size_t row)
 {
     static const struct t24_data_check checks[] = {
-        { T24_PRM_RD, T24_PRM_AT_NUMBER, "parameter number",
+        { T24_IN_BOTH, T24_PRM_RD, T24_PRM_AT_NUMBER, "parameter number",
           "not in the sheet" },
-        { T24_PRM_RD, T24_PRM_AT_SIZE, "size",
+        { T24_IN_ENHANCED, T24_PRM_RD, T24_PRM_AT_SIZE, "size",
           "not the parameter's, or more than L - 8" },
-        { T24_ID_RD, T24_ID_AT_CODE, "ID code", "not in the sheet" },
-        { T24_ID_RD, T24_ID_AT_SIZE, "size",
+        { T24_IN_SHORT, T24_PRM_RD, T24_PRM_AT_SIZE, "size",
+          "not the parameter's, or more than 8" },
+        { T24_IN_BOTH, T24_ID_RD, T24_ID_AT_CODE, "ID code", "not in the sheet" },
+        { T24_IN_ENHANCED, T24_ID_RD, T24_ID_AT_SIZE, "size",
           "0, past the item's end, or more than L - 8" },
-        { T24_ALM_RD, T24_COMMAND_AT_CODE, "L", "ALM_RD needs 16 or more" },
-        { T24_ALM_RD, T24_ALM_AT_MODE, "mode", "not 0" },
-        { T24_ALM_CLR, T24_ALM_AT_MODE, "mode", "not 0" },
-        { T24_CONNECT, T24_CONNECT_AT_VERSION, "version", "not the sheet's" },
-        { T24_CONNECT, T24_CONNECT_AT_COM_MOD, "com_mod",
+        { T24_IN_SHORT, T24_ID_RD, T24_ID_AT_SIZE, "size",
+          "0, past the item's end, or more than 8" },
+        { T24_IN_ENHANCED, T24_ALM_RD, T24_COMMAND_AT_CODE, "L",
+          "ALM_RD needs 16 or more" },
+        { T24_IN_BOTH, T24_ALM_RD, T24_ALM_AT_MODE, "mode", "not 0" },
+        { T24_IN_BOTH, T24_ALM_CLR, T24_ALM_AT_MODE, "mode", "not 0" },
+        { T24_IN_BOTH, T24_CONNECT, T24_CONNECT_AT_VERSION, "version",
+          "not the sheet's" },
+        { T24_IN_BOTH, T24_CONNECT, T24_CONNECT_AT_COM_MOD, "com_mod",
           "not 00, 02 or 06" },
-        { T24_CONNECT, T24_CONNECT_AT_COM_TIME, "com_time",
+        { T24_IN_BOTH, T24_CONNECT, T24_CONNECT_AT_COM_TIME, "com_time",
           "0, or 1 with dual transfer" },
-        { T24_CONNECT, T24_CONNECT_AT_PROFILE, "profile", "not the sheet's" },
-        { T24_MEM_RD, T24_MEM_AT_ELEMENT, "element", "not 11, 21 or 31" },
-        { T24_MEM_RD, T24_MEM_AT_COUNT, "count",
+        { T24_IN_ENHANCED, T24_CONNECT, T24_CONNECT_AT_PROFILE, "profile",
+          "not the sheet's" },
+        { T24_IN_ENHANCED, T24_MEM_RD, T24_MEM_AT_ELEMENT, "element",
+          "not 11, 21 or 31" },
+        { T24_IN_ENHANCED, T24_MEM_RD, T24_MEM_AT_COUNT, "count",
           "0, or with its element more than L - 12 octets" },
-        { T24_MEM_RD, T24_MEM_AT_ADDRESS, "address",
+        { T24_IN_ENHANCED, T24_MEM_RD, T24_MEM_AT_ADDRESS, "address",
           "an octet from it on is in no region" }
     };
-    size_t i;
 
-    for (i = 0; i < sizeof checks / sizeof checks[0]; i++)
-        if (checks[i].code == t24_checked_as(code) && checks[i].place == place)
-            return &checks[i];
+    return row < sizeof checks / sizeof checks[0] ? &checks[row] : NULL;
+}
+
+/* The check of a code that has this place in the sheet's type, or NULL. */
+static inline const struct t24_data_check *t24_data_check_at(
+    const uint8_t *sheet, uint32_t code, uint32_t place)
+{
+    const uint32_t type = t24_is_short(sheet) ? T24_IN_SHORT : T24_IN_ENHANCED;
+    const struct t24_data_check *check;
+    size_t row;
+
+    for (row = 0; (check = t24_data_check_row(row)) != NULL; row++)
+        if (check->code == t24_checked_as(code) && check->place == place
+            && (check->types & type) != 0)
+            return check;
     return NULL;
 }
 
 /* Whether a command of this code asks a right over a span. */
-static inline int t24_has_span(uint32_t code)
+static inline int t24_has_span(const uint8_t *sheet, uint32_t code)
 {
-    const uint32_t reads = t24_checked_as(code);
-
-    return reads == T24_PRM_RD || reads == T24_MEM_RD;
+    return code == T24_PRM_RD || code == T24_PRM_WR
+        || (t24_is_mem(code) && !t24_is_short(sheet));
 }
 
 /*
@@ -77,14 +98,14 @@ static inline int t24_has_span(uint32_t code)
  * the place of the exchange's answer: "size", "com_time", "address"; for alarm
  * 10 "octet of the span"; for alarms 8 and 12, which have no place, "code".
  */
-static inline const char *t24_field_words(uint32_t code, uint32_t alarm,
-                                          uint32_t place)
+static inline const char *t24_field_words(const uint8_t *sheet, uint32_t code,
+                                          uint32_t alarm, uint32_t place)
 {
-    const struct t24_data_check *check = t24_data_check_at(code, place);
+    const struct t24_data_check *check = t24_data_check_at(sheet, code, place);
 
     if (alarm == T24_ALARM_CODE || alarm == T24_ALARM_LINK)
         return "code";
-    if (alarm == T24_ALARM_RIGHTS && t24_has_span(code))
+    if (alarm == T24_ALARM_RIGHTS && t24_has_span(sheet, code))
         return "octet of the span";
     if (alarm == T24_ALARM_DATA && check != NULL)
         return check->field;
@@ -132,10 +153,10 @@ static inline const char *t24_right_words(uint32_t code, uint32_t link)
 }
 
 /* Alarm 9: the octet, the field, and what is wrong with it. */
-static inline void t24_put_check(struct t24_text *text, uint32_t code,
-                                 uint32_t place)
+static inline void t24_put_check(struct t24_text *text, const uint8_t *sheet,
+                                 uint32_t code, uint32_t place)
 {
-    const struct t24_data_check *check = t24_data_check_at(code, place);
+    const struct t24_data_check *check = t24_data_check_at(sheet, code, place);
 
     t24_put(text, " at octet ");
     t24_put_decimal(text, place);
@@ -171,13 +192,14 @@ static inline void t24_put_lacking(struct t24_text *text, uint32_t code,
  * alarm and t24_alarm_words(); "no alarm" for 0.  The link is the state
  * record's, before or after the exchange, since a refused command keeps it.
  * Sheet and command may be left out, with length 0: then what they tell is not
- * said, and the command counts as zeros.
+ * said, the type counts as the enhanced one and the command as zeros.
  */
 static inline size_t t24_refused_command_words(
     const uint8_t *sheet, size_t sheet_len, uint32_t link,
     const uint8_t *command, size_t command_len, uint32_t alarm, uint32_t place,
     char *text, size_t text_len)
 {
+    const uint8_t *typed = t24_lent_sheet(sheet, sheet_len);
     struct t24_text made = t24_text_in(text, text_len);
     struct t24_pdu pdu;
     uint64_t address = 0;
@@ -195,8 +217,8 @@ static inline size_t t24_refused_command_words(
     t24_put(&made, "alarm ");
     t24_put_decimal(&made, alarm);
     if (alarm == T24_ALARM_DATA) {
-        t24_put_check(&made, code, place);
-    } else if (alarm == T24_ALARM_RIGHTS && t24_has_span(code)) {
+        t24_put_check(&made, typed, code, place);
+    } else if (alarm == T24_ALARM_RIGHTS && t24_has_span(typed, code)) {
         t24_put_lacking(&made, code, link, place, known ? &address : NULL);
     } else {
         t24_put(&made, ", ");

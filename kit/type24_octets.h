@@ -23,24 +23,26 @@
 #define T24_TRACE_MAX 1073741823 /* no replayed trace is longer */
 
 /*
- * Sheet (RULES 3): an octet of kind and a body.  First one link record, then
- * regions, parameters and ID items, then at most one tolerance record, at last
- * the end record.
+ * Sheet (RULES 3): an octet of kind and a body.  First one link record, of the
+ * enhanced type or of the short type, then regions, parameters and ID items, then
+ * at most one tolerance record, at last the end record.
  */
 #define T24_RECORD_END 0x00
 #define T24_RECORD_LINK 0x01      /* L (1), version (1), profile (1) */
 #define T24_RECORD_REGION 0x02    /* start (4), length (4), rights (1) */
 #define T24_RECORD_PARAMETER 0x03 /* number (2), address (4), size (1) */
 #define T24_RECORD_ID 0x04        /* code (1), length (1), 32 octets */
+#define T24_RECORD_SHORT_LINK 0x05 /* as the link record; L is 16 */
 #define T24_RECORD_TOLERANCE 0x06 /* lost cycles in a row (1) */
 #define T24_RECORD_END_LEN 1 /* octets of a record, its kind among them */
 #define T24_RECORD_LINK_LEN 4
 #define T24_RECORD_REGION_LEN 10
 #define T24_RECORD_PARAMETER_LEN 8
 #define T24_RECORD_ID_LEN 35
+#define T24_RECORD_SHORT_LINK_LEN 4
 #define T24_RECORD_TOLERANCE_LEN 2
 
-#define T24_SHEET_AT_L 1 /* of the sheet: the link record is its first */
+#define T24_SHEET_AT_L 1 /* of the sheet: its first is a link record */
 #define T24_SHEET_AT_VERSION 2
 #define T24_SHEET_AT_PROFILE 3
 #define T24_REGION_AT_START 1  /* from here on places in the record */
@@ -97,7 +99,8 @@
 #define T24_TRACE_AT_COMMAND 1 /* the reply stands L octets behind it */
 
 /*
- * Every command has L octets (RULES 2.3):
+ * Every command of the enhanced type has L octets (RULES 2.3); type24_short.h has
+ * those of the short type:
  *   0     the code
  *   1     WDT: low half MN, high half SN.  In SyncConnected MN has to be one
  *         more, modulo 16, than in the command before, and SN has to be RSN of
@@ -115,7 +118,7 @@
 #define T24_IDENTITY 0xC0 /* bits 6 and 7 of octet 2, in command and reply */
 
 /*
- * Every reply has L octets (RULES 6.2 and 6.3):
+ * Every reply of the enhanced type has L octets (RULES 6.2 and 6.3):
  *   0     the code again
  *   1     RWDT: low half the command's MN, high half RSN, 0 to 15; 0 where the
  *         link afterwards is not SyncConnected

@@ -1,6 +1,6 @@
 /*
- * type24_pdu_words.h - commands, and the octets of replies, in words (RULES 7).
- * Comes with type24_words.h.
+ * type24_pdu_words.h - commands in words, of either type (RULES 7).  Comes with
+ * type24_words.h.
  */
 #ifndef TYPE24_PDU_WORDS_H
 #define TYPE24_PDU_WORDS_H
@@ -8,9 +8,26 @@
 #include "type24.h"
 #include "type24_text.h"
 
-/* A command's name. */
-static inline const char *t24_code_words(uint32_t code)
+/* A sheet that is left out, with length 0, counts as one of the enhanced type. */
+static inline const uint8_t *t24_lent_sheet(const uint8_t *sheet,
+                                            size_t sheet_len)
 {
+    static const uint8_t none[] = { T24_RECORD_LINK };
+
+    return sheet_len > 0 ? sheet : none;
+}
+
+/* Whether a code is one of the two that the short type has not. */
+static inline int t24_is_mem(uint32_t code)
+{
+    return code == T24_MEM_RD || code == T24_MEM_WR;
+}
+
+/* A command's name under a sheet of either type. */
+static inline const char *t24_code_words(const uint8_t *sheet, uint32_t code)
+{
+    if (t24_is_mem(code) && t24_is_short(sheet))
+        return "unknown code";
     switch (code) {
     case T24_NOP: return "NOP";
     case T24_PRM_RD: return "PRM_RD";
@@ -25,106 +42,6 @@ static inline const char *t24_code_words(uint32_t code)
     case T24_MEM_WR: return "MEM_WR";
     default: return "unknown code";
     }
-}
-
-#define T24_UNNAMED "unnamed, must be 0"
-
-/* Octets from 4 on of accepted commands, by the commands' fields. */
-static inline const char *t24_prm_octet_words(int reads, size_t octet)
-{
-    if (octet < T24_PRM_AT_SIZE)
-        return reads ? "PRM_RD: number" : "PRM_WR: number";
-    if (octet == T24_PRM_AT_SIZE)
-        return reads ? "PRM_RD: size" : "PRM_WR: size";
-    if (octet < T24_PRM_AT_DATA)
-        return T24_UNNAMED;
-    return reads ? "PRM_RD: data, and zeros behind it"
-                 : "PRM_WR: data, and zeros behind it";
-}
-
-static inline const char *t24_mem_octet_words(int reads, size_t octet)
-{
-    if (octet < T24_MEM_AT_ELEMENT)
-        return T24_UNNAMED;
-    if (octet == T24_MEM_AT_ELEMENT)
-        return reads ? "MEM_RD: element" : "MEM_WR: element";
-    if (octet < T24_MEM_AT_ADDRESS)
-        return reads ? "MEM_RD: count" : "MEM_WR: count";
-    if (octet < T24_MEM_AT_DATA)
-        return reads ? "MEM_RD: address" : "MEM_WR: address";
-    return reads ? "MEM_RD: data, and zeros behind it"
-                 : "MEM_WR: data, and zeros behind it";
-}
-
-static inline const char *t24_id_octet_words(size_t octet)
-{
-    if (octet == T24_ID_AT_CODE)
-        return "ID_RD: code of the item";
-    if (octet == T24_ID_AT_OFFSET)
-        return "ID_RD: offset";
-    return octet < T24_ID_AT_DATA ? "ID_RD: size"
-                                  : "ID_RD: data, and zeros behind it";
-}
-
-static inline const char *t24_connect_octet_words(size_t octet)
-{
-    switch (octet) {
-    case T24_CONNECT_AT_VERSION: return "CONNECT: version";
-    case T24_CONNECT_AT_COM_MOD: return "CONNECT: com_mod";
-    case T24_CONNECT_AT_COM_TIME: return "CONNECT: com_time";
-    case T24_CONNECT_AT_PROFILE: return "CONNECT: profile";
-    default: return T24_UNNAMED;
-    }
-}
-
-/* An octet from 4 on, in the reply to an accepted command of this code. */
-static inline const char *t24_body_octet_words(uint32_t code, size_t octet)
-{
-    switch (code) {
-    case T24_PRM_RD:
-    case T24_PRM_WR:
-        return t24_prm_octet_words(code == T24_PRM_RD, octet);
-    case T24_ID_RD:
-        return t24_id_octet_words(octet);
-    case T24_ALM_RD:
-        if (octet == T24_ALM_AT_COMMAND)
-            return "ALM_RD: command latch";
-        return octet == T24_ALM_AT_COMMUNICATION
-            ? "ALM_RD: communication latch" : T24_UNNAMED;
-    case T24_CONNECT:
-        return t24_connect_octet_words(octet);
-    case T24_MEM_RD:
-    case T24_MEM_WR:
-        return t24_mem_octet_words(code == T24_MEM_RD, octet);
-    default:
-        return T24_UNNAMED;
-    }
-}
-
-/* The field that an octet of a reply with this code belongs to, as far as the
- * command was executed. */
-static inline const char *t24_octet_words(uint32_t code, size_t octet)
-{
-    switch (octet) {
-    case T24_REPLY_AT_CODE: return "the code";
-    case T24_REPLY_AT_RWDT: return "RWDT";
-    case T24_REPLY_AT_STATUS:
-        return "status, low octet, with the command's identity";
-    case T24_REPLY_AT_STATUS + 1: return "status, high octet";
-    default: break;
-    }
-    return octet < T24_L_MAX ? t24_body_octet_words(code, octet)
-                             : "not an octet of a reply";
-}
-
-/* The same where one knows whether it was: refused with an alarm, or its cycle
- * lost, it was not. */
-static inline const char *t24_reply_octet_words(uint32_t code, size_t octet,
-                                                int executed)
-{
-    if (!executed && octet > T24_REPLY_AT_STATUS + 1 && octet < T24_L_MAX)
-        return "the body of a refused or not executed command is zero";
-    return t24_octet_words(code, octet);
 }
 
 /* A command's octets, and how many there are. */
@@ -146,7 +63,7 @@ static inline uint64_t t24_field(const struct t24_pdu *pdu, size_t at,
     return number;
 }
 
-static inline void t24_put_connect(struct t24_text *text,
+static inline void t24_put_connect(struct t24_text *text, const uint8_t *sheet,
                                    const struct t24_pdu *pdu)
 {
     t24_put(text, " version ");
@@ -155,6 +72,8 @@ static inline void t24_put_connect(struct t24_text *text,
     t24_put_hex(text, t24_field(pdu, T24_CONNECT_AT_COM_MOD, 1), 2);
     t24_put(text, ", com_time ");
     t24_put_decimal(text, t24_field(pdu, T24_CONNECT_AT_COM_TIME, 1));
+    if (t24_is_short(sheet))
+        return;
     t24_put(text, ", profile ");
     t24_put_hex(text, t24_field(pdu, T24_CONNECT_AT_PROFILE, 1), 2);
 }
@@ -186,10 +105,13 @@ static inline void t24_put_mem(struct t24_text *text, const struct t24_pdu *pdu)
     }
 }
 
-/* The fields that a command of this code has. */
-static inline void t24_put_fields(struct t24_text *text, uint64_t code,
-                                  const struct t24_pdu *pdu)
+/* The fields that a command of this code has.  The size of ID_RD and the mode
+ * have one octet in the short type, and else two. */
+static inline void t24_put_fields(struct t24_text *text, const uint8_t *sheet,
+                                  uint32_t code, const struct t24_pdu *pdu)
 {
+    const size_t width = t24_is_short(sheet) ? 1 : 2;
+
     if (code == T24_PRM_RD || code == T24_PRM_WR) {
         t24_put(text, " number ");
         t24_put_decimal(text, t24_field(pdu, T24_PRM_AT_NUMBER, 2));
@@ -201,13 +123,13 @@ static inline void t24_put_fields(struct t24_text *text, uint64_t code,
         t24_put(text, ", offset ");
         t24_put_decimal(text, t24_field(pdu, T24_ID_AT_OFFSET, 1));
         t24_put(text, ", ");
-        t24_put_count(text, t24_field(pdu, T24_ID_AT_SIZE, 2), "octet");
+        t24_put_count(text, t24_field(pdu, T24_ID_AT_SIZE, width), "octet");
     } else if (code == T24_ALM_RD || code == T24_ALM_CLR) {
         t24_put(text, " mode ");
-        t24_put_decimal(text, t24_field(pdu, T24_ALM_AT_MODE, 2));
+        t24_put_decimal(text, t24_field(pdu, T24_ALM_AT_MODE, width));
     } else if (code == T24_CONNECT) {
-        t24_put_connect(text, pdu);
-    } else if (code == T24_MEM_RD || code == T24_MEM_WR) {
+        t24_put_connect(text, sheet, pdu);
+    } else if (t24_is_mem(code) && !t24_is_short(sheet)) {
         t24_put_mem(text, pdu);
     }
 }
@@ -224,29 +146,34 @@ static inline void t24_put_identity(struct t24_text *text, const char *before,
 
 /*
  * A command: "1D MEM_RD address 00001000, 4 octets; MN 4, SN 0", and its
- * identity where that is not 0: "0F DISCONNECT; MN 5, SN 0, identity 2".
+ * identity where it has one that is not 0: "0F DISCONNECT; MN 5, SN 0, identity
+ * 2".  Of the sheet the first octet is read, which tells the type.
  */
-static inline size_t t24_command_words(const uint8_t *command,
+static inline size_t t24_command_words(const uint8_t *sheet,
+                                       const uint8_t *command,
                                        size_t command_len, char *text,
                                        size_t text_len)
 {
     struct t24_text made = t24_text_in(text, text_len);
     struct t24_pdu pdu;
+    uint64_t wdt;
     uint32_t code;
 
     pdu.at = command;
     pdu.len = command_len;
     code = t24_field(&pdu, T24_COMMAND_AT_CODE, 1) & 0xFFu;
+    wdt = t24_field(&pdu, t24_wdt_at(sheet), 1);
     t24_put_hex(&made, code, 2);
     t24_put_char(&made, ' ');
-    t24_put(&made, t24_code_words(code));
-    t24_put_fields(&made, code, &pdu);
+    t24_put(&made, t24_code_words(sheet, code));
+    t24_put_fields(&made, sheet, code, &pdu);
     t24_put(&made, "; MN ");
-    t24_put_decimal(&made, t24_field(&pdu, T24_COMMAND_AT_WDT, 1) & 0x0Fu);
+    t24_put_decimal(&made, wdt & 0x0Fu);
     t24_put(&made, ", SN ");
-    t24_put_decimal(&made, t24_field(&pdu, T24_COMMAND_AT_WDT, 1) >> 4);
-    t24_put_identity(&made, ", identity ",
-                     t24_field(&pdu, T24_COMMAND_AT_CONTROL, 1) >> 6 & 3u);
+    t24_put_decimal(&made, wdt >> 4);
+    if (!t24_is_short(sheet))
+        t24_put_identity(&made, ", identity ",
+                         t24_field(&pdu, T24_COMMAND_AT_CONTROL, 1) >> 6 & 3u);
     return t24_text_end(&made);
 }
 

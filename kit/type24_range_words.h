@@ -88,6 +88,10 @@ static inline int t24_say_range(struct t24_text *text,
         return value != 8 && (value == 0 || value > 64 || value % 16 != 0)
             && t24_say_field(text, walk, ", L ", value,
                              ": only 8, 16, 32, 48 or 64");
+    case T24_RECORD_SHORT_LINK:
+        value = record[T24_SHEET_AT_L];
+        return value != T24_L16
+            && t24_say_field(text, walk, ", L ", value, ": only 16");
     case T24_RECORD_REGION:
         return t24_say_region(text, walk);
     case T24_RECORD_PARAMETER:

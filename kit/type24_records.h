@@ -19,6 +19,7 @@ static inline size_t t24_record_len(uint8_t kind)
     case T24_RECORD_REGION: return T24_RECORD_REGION_LEN;
     case T24_RECORD_PARAMETER: return T24_RECORD_PARAMETER_LEN;
     case T24_RECORD_ID: return T24_RECORD_ID_LEN;
+    case T24_RECORD_SHORT_LINK: return T24_RECORD_SHORT_LINK_LEN;
     case T24_RECORD_TOLERANCE: return T24_RECORD_TOLERANCE_LEN;
     default: return 0;
     }

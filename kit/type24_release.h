@@ -3,17 +3,18 @@
  * Comes with type24.h.
  *
  * A host that was built with the headers of one release and linked with the
- * archive of another lends buffers of other lengths than the archive asks for.
- * Every call then answers a number and writes nothing; t24_release_fits() says
- * why, before the first of them (RULES 8.15).
+ * archive of another may lend buffers of other lengths than the archive asks for,
+ * as one of release 1 does: every call then answers a number and writes nothing.
+ * Or it reads the wrong octet of a reply, as one of release 2 does of the short
+ * type's.  t24_release_fits() says so, before the first call (RULES 8.15 to 8.19).
  */
 #ifndef TYPE24_RELEASE_H
 #define TYPE24_RELEASE_H
 
 #include <stdint.h>
 
-#define T24_VERSION "2.0.0" /* T24_PROVED_WITH stands in type24_version.h */
-#define T24_RELEASE 2       /* the first number of it */
+#define T24_VERSION "3.0.0" /* T24_PROVED_WITH stands in type24_version.h */
+#define T24_RELEASE 3       /* the first number of it */
 
 #ifdef __cplusplus
 extern "C" {

@@ -10,7 +10,7 @@
 
 /*
  * "the archive is of release 3, this header of release 2: a host needs both out
- * of one kit"; where they fit, "archive and header are of release 2".
+ * of one kit"; where they fit, "archive and header are of release 3".
  */
 static inline size_t t24_release_words(char *text, size_t text_len)
 {

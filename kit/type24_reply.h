@@ -1,7 +1,8 @@
 /*
  * type24_reply.h - what a built reply tells beside its body: the command's
  * alarm, the communication latch, a tolerated lost cycle, the identity (RULES
- * 6.2).  Comes with type24.h.
+ * 6.2).  Each takes the sheet first, since the two types have these at different
+ * octets.  Comes with type24.h.
  */
 #ifndef TYPE24_REPLY_H
 #define TYPE24_REPLY_H
@@ -9,6 +10,7 @@
 #include <stdint.h>
 
 #include "type24_octets.h"
+#include "type24_short.h"
 
 /* Alarms in a reply and in the latches (RULES 6.6). */
 #define T24_ALARM_NONE 0
@@ -24,8 +26,11 @@
  * t24_reply_tolerated() tells it, or the state's link went from T24_LINK_SYNC to
  * T24_LINK_ASYNC (RULES 6.4).
  */
-static inline uint32_t t24_reply_alarm(const uint8_t *reply)
+static inline uint32_t t24_reply_alarm(const uint8_t *sheet,
+                                       const uint8_t *reply)
 {
+    if (t24_is_short(sheet))
+        return reply[T24_SHORT_REPLY_AT_ALARM];
     return reply[T24_REPLY_AT_STATUS + 1] & 0x0Fu;
 }
 
@@ -34,24 +39,30 @@ static inline uint32_t t24_reply_alarm(const uint8_t *reply)
  * link and latches are as before.  Never without a tolerance record in the
  * sheet.
  */
-static inline int t24_reply_tolerated(const uint8_t *reply)
+static inline int t24_reply_tolerated(const uint8_t *sheet,
+                                      const uint8_t *reply)
 {
-    return (reply[T24_REPLY_AT_STATUS] & T24_STATUS_TOLERATED) != 0;
+    return (reply[t24_status_at(sheet)] & T24_STATUS_TOLERATED) != 0;
 }
 
 /*
  * The identity of the command that a built reply belongs to, 0 to 3: what its
- * octet 2 has in T24_IDENTITY, if it was accepted, refused or not executed.
+ * octet 2 has in T24_IDENTITY, if it was accepted, refused or not executed.  The
+ * short type has none: 0.
  */
-static inline uint32_t t24_reply_identity(const uint8_t *reply)
+static inline uint32_t t24_reply_identity(const uint8_t *sheet,
+                                          const uint8_t *reply)
 {
+    if (t24_is_short(sheet))
+        return 0;
     return (reply[T24_REPLY_AT_STATUS] >> 6) & 0x03u;
 }
 
 /* The latched communication alarm in a built reply. */
-static inline uint32_t t24_reply_communication_alarm(const uint8_t *reply)
+static inline uint32_t t24_reply_communication_alarm(const uint8_t *sheet,
+                                                     const uint8_t *reply)
 {
-    return (reply[T24_REPLY_AT_STATUS + 1] >> 4) & 0x0Fu;
+    return (reply[t24_status_at(sheet) + 1] >> 4) & 0x0Fu;
 }
 
 /* A command alarm in words. */

@@ -42,7 +42,7 @@ static inline int t24_say_kind(struct t24_text *text,
         return 0;
     t24_put(text, "kind ");
     t24_put_hex(text, walk->sheet[walk->at], 2);
-    t24_put(text, " is unknown: a record begins with 00 to 04 or 06");
+    t24_put(text, " is unknown: a record begins with 00 to 06");
     return 1;
 }
 
@@ -70,22 +70,38 @@ static inline int t24_say_late(struct t24_text *text,
     return 1;
 }
 
+/* 13: a link record that is not the first, of the same type or of the other. */
+static inline int t24_say_second_link(struct t24_text *text, uint8_t first,
+                                      uint8_t second)
+{
+    if (first == second)
+        t24_put(text, "a second link record: it comes first and once");
+    else if (second == T24_RECORD_SHORT_LINK)
+        t24_put(text, "a short link record after a link record: one of them comes "
+                      "first and once");
+    else
+        t24_put(text, "a link record after a short link record: one of them comes "
+                      "first and once");
+    return 1;
+}
+
 /* 13: a known kind where another should be, or anything behind the end. */
 static inline int t24_say_place(struct t24_text *text,
                                 const struct t24_walk *walk)
 {
     const uint8_t kind = walk->sheet[walk->at];
     const int tolerance = walk->count[T24_RECORD_TOLERANCE] != 0;
+    const int link = kind == T24_RECORD_LINK || kind == T24_RECORD_SHORT_LINK;
 
     if (walk->count[T24_RECORD_END] != 0) {
         t24_put_count(text, walk->sheet_len - walk->at, "octet");
         t24_put(text, " after the end record");
-    } else if (walk->at == 0 && kind != T24_RECORD_LINK) {
+    } else if (walk->at == 0 && !link) {
         t24_put(text, "the sheet begins with ");
         t24_put_hex(text, kind, 2);
-        t24_put(text, ", not with a link record, 01");
-    } else if (walk->at != 0 && kind == T24_RECORD_LINK) {
-        t24_put(text, "a second link record: it comes first and once");
+        t24_put(text, ", not with a link record, 01 or 05");
+    } else if (walk->at != 0 && link) {
+        return t24_say_second_link(text, walk->sheet[0], kind);
     } else if (tolerance && kind == T24_RECORD_TOLERANCE) {
         t24_put(text, "a second tolerance record: it comes at most once");
     } else {

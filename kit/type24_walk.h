@@ -74,6 +74,7 @@ static inline const char *t24_kind_words(uint8_t kind)
     case T24_RECORD_REGION: return " region";
     case T24_RECORD_PARAMETER: return " parameter";
     case T24_RECORD_ID: return " ID item";
+    case T24_RECORD_SHORT_LINK: return " short link record";
     case T24_RECORD_TOLERANCE: return " tolerance record";
     default: return " record";
     }
@@ -139,6 +140,8 @@ static inline void t24_put_counted(struct t24_text *text,
         t24_put_decimal(text, walk->count[kind] + 1);
     } else if (kind == T24_RECORD_LINK) {
         t24_put(text, "link record");
+    } else if (kind == T24_RECORD_SHORT_LINK) {
+        t24_put(text, "short link record");
     } else if (kind == T24_RECORD_TOLERANCE) {
         t24_put(text, "tolerance record");
     } else {
@@ -169,7 +172,9 @@ static inline void t24_put_contents(struct t24_text *text,
                                     const struct t24_walk *walk)
 {
     t24_put(text, "valid, ");
-    if (walk->count[T24_RECORD_LINK] != 0) {
+    if (walk->count[T24_RECORD_SHORT_LINK] != 0)
+        t24_put(text, "short type, ");
+    if (walk->count[T24_RECORD_LINK] + walk->count[T24_RECORD_SHORT_LINK] != 0) {
         t24_put(text, "L ");
         t24_put_decimal(text, walk->sheet[T24_SHEET_AT_L]);
         t24_put(text, ", ");

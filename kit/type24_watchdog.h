@@ -4,7 +4,8 @@
  *
  * A command has WDT, 16 SN + MN, and a reply RWDT, 16 RSN + MN.  The master
  * counts MN and copies RSN of the last reply into SN; the slave counts RSN and
- * copies MN.
+ * copies MN.  What reads a command or a reply takes the sheet first, since WDT and
+ * RWDT stand elsewhere in the short type.
  */
 #ifndef TYPE24_WATCHDOG_H
 #define TYPE24_WATCHDOG_H
@@ -14,6 +15,7 @@
 
 #include "type24_octets.h"
 #include "type24_records.h"
+#include "type24_short.h"
 
 /*
  * For a host that plays the master: the next command's WDT, by the last reply:
@@ -22,23 +24,30 @@
  * SyncConnected, any WDT is taken, so this one too; before there is a reply,
  * octets of zero will do for one.
  */
-static inline uint8_t t24_next_wdt(const uint8_t *reply)
+static inline uint8_t t24_next_wdt(const uint8_t *sheet, const uint8_t *reply)
 {
-    const uint32_t rwdt = reply[T24_REPLY_AT_RWDT];
+    const uint32_t rwdt = reply[t24_rwdt_at(sheet)];
     const uint32_t rsn = rwdt & 0xF0u, mn = (rwdt + 1u) & 0x0Fu;
 
     return (rsn | mn) & 0xFFu;
 }
 
-/* MN and SN as a command has them. */
-static inline uint32_t t24_mn(const uint8_t *command)
+/* Puts WDT into a command; no other octet of it is written. */
+static inline void t24_put_wdt(const uint8_t *sheet, uint8_t *command,
+                               uint8_t wdt)
 {
-    return command[T24_COMMAND_AT_WDT] & 0x0Fu;
+    command[t24_wdt_at(sheet)] = wdt;
 }
 
-static inline uint32_t t24_sn(const uint8_t *command)
+/* MN and SN as a command has them. */
+static inline uint32_t t24_mn(const uint8_t *sheet, const uint8_t *command)
 {
-    return (command[T24_COMMAND_AT_WDT] >> 4) & 0x0Fu;
+    return command[t24_wdt_at(sheet)] & 0x0Fu;
+}
+
+static inline uint32_t t24_sn(const uint8_t *sheet, const uint8_t *command)
+{
+    return (command[t24_wdt_at(sheet)] >> 4) & 0x0Fu;
 }
 
 /* MN and SN as the watchdog asks for them, where it does; by a state record. */
@@ -64,12 +73,13 @@ static inline int t24_watchdog_asks(const uint8_t *state)
  * copy.  t24_lost_words() in type24_words.h says what was expected, and what
  * comes of it.
  */
-static inline int t24_watchdog_fails(const uint8_t *state,
+static inline int t24_watchdog_fails(const uint8_t *sheet,
+                                     const uint8_t *state,
                                      const uint8_t *command)
 {
     return t24_watchdog_asks(state)
-        && (t24_mn(command) != t24_expected_mn(state)
-            || t24_sn(command) != t24_expected_sn(state));
+        && (t24_mn(sheet, command) != t24_expected_mn(state)
+            || t24_sn(sheet, command) != t24_expected_sn(state));
 }
 
 /*

@@ -7,15 +7,16 @@
  * A host includes this header where it wants them; type24.h comes with it, and
  * nothing of the C library is needed.  Functions with text and text_len write
  * at most text_len octets, the last of them a zero, and tell how long the whole
- * text is without it, as snprintf does; text_len may be 0.
+ * text is without it, as snprintf does; text_len may be 0.  Those about a command
+ * or a reply take the sheet first, and by its first octet they know the type.
  *
  *   t24_sheet_words        an answer about a sheet     type24_sheet_words.h
  *   t24_state_words        a state record              type24_state_words.h
  *   t24_state_fault_words  why T24_BAD_STATE           type24_state_words.h
  *   t24_turn_fault_words   why, of t24_turn            type24_state_words.h
  *   t24_command_words      a command                   type24_pdu_words.h
- *   t24_octet_words        an octet of a reply         type24_pdu_words.h
- *   t24_reply_octet_words  executed or not             type24_pdu_words.h
+ *   t24_octet_words        an octet of a reply         type24_octet_words.h
+ *   t24_reply_octet_words  executed or not             type24_octet_words.h
  *   t24_field_words        a refused command's field   type24_field_words.h
  *   t24_refused_command_words  why it was refused      type24_field_words.h
  *   t24_watchdog_words     why a cycle was lost        type24_watchdog_words.h
@@ -31,6 +32,7 @@
 
 #include "type24.h"
 #include "type24_field_words.h"
+#include "type24_octet_words.h"
 #include "type24_pdu_words.h"
 #include "type24_release_words.h"
 #include "type24_sheet_words.h"
@@ -56,34 +58,49 @@ static inline void t24_put_alarm(struct t24_text *text, uint32_t alarm,
     }
 }
 
+/* Bits of a status that no reply of the type has so; the short type has neither
+ * an identity nor the alarm there. */
+static inline void t24_put_odd_bits(struct t24_text *text, const uint8_t *sheet,
+                                    const uint8_t *status)
+{
+    const int is_short = t24_is_short(sheet);
+
+    if ((status[0] & T24_STATUS_ALWAYS) == 0)
+        t24_put(text, "; bit 2 is 0, must be 1");
+    if ((status[0] & (is_short ? 0xF8u : 0x38u)) != 0)
+        t24_put(text, is_short ? "; bits 3 to 7 are not 0"
+                               : "; bits 3 to 5 are not 0");
+    if (is_short && (status[1] & 0x0Fu) != 0)
+        t24_put(text, "; bits 8 to 11 are not 0");
+}
+
 /*
  * The status of a reply (RULES 6.2 and 6.3), of which octets 2 and 3 are
- * read.  Without an alarm it is "accepted", but not where a lost cycle was
- * tolerated, and not while the communication latch is set: the command may be
- * the one that was not executed.  The identity is told where it is not 0.
+ * read, and in the short type octet 1, the alarm.  Without an alarm it is
+ * "accepted", but not where a lost cycle was tolerated, and not while the
+ * communication latch is set: the command may be the one that was not executed.
+ * The identity is told where it is not 0.
  */
-static inline size_t t24_status_words(const uint8_t *reply, char *text,
+static inline size_t t24_status_words(const uint8_t *sheet,
+                                      const uint8_t *reply, char *text,
                                       size_t text_len)
 {
-    const uint32_t alarm = t24_reply_alarm(reply);
-    const uint32_t latch = t24_reply_communication_alarm(reply);
-    const uint8_t low = reply[T24_REPLY_AT_STATUS];
+    const uint32_t alarm = t24_reply_alarm(sheet, reply);
+    const uint32_t latch = t24_reply_communication_alarm(sheet, reply);
+    const uint8_t *status = reply + t24_status_at(sheet);
     struct t24_text made = t24_text_in(text, text_len);
 
-    t24_put_alarm(&made, alarm, latch, t24_reply_tolerated(reply));
+    t24_put_alarm(&made, alarm, latch, t24_reply_tolerated(sheet, reply));
     if (latch != T24_ALARM_NONE) {
         t24_put(&made, "; communication latch ");
         t24_put_decimal(&made, latch);
         t24_put(&made, ", ");
         t24_put(&made, t24_communication_words(latch));
     }
-    if ((low & T24_STATUS_LATCHED) != 0)
+    if ((status[0] & T24_STATUS_LATCHED) != 0)
         t24_put(&made, "; a latch is set");
-    t24_put_identity(&made, "; identity ", t24_reply_identity(reply));
-    if ((low & T24_STATUS_ALWAYS) == 0)
-        t24_put(&made, "; bit 2 is 0, must be 1");
-    if ((low & 0x38u) != 0)
-        t24_put(&made, "; bits 3 to 5 are not 0");
+    t24_put_identity(&made, "; identity ", t24_reply_identity(sheet, reply));
+    t24_put_odd_bits(&made, sheet, status);
     return t24_text_end(&made);
 }
 

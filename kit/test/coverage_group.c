@@ -1,4 +1,5 @@
-/* Last of all: each number was answered by each call that can answer it. */
+/* Last of all: each number was answered by each call that can answer it, on sheets
+ * of each type. */
 #include "groups.h"
 
 void all_numbers_met(void)
@@ -13,12 +14,14 @@ void all_numbers_met(void)
         "xx....xxxxxxxx.....", "xxxxxx.xxxxxxx.....", "xxx..x.xxxxxxxxxxxx",
         "xx.....xxxxxxx....."
     };
-    int which, i;
+    int which, is_short, i;
 
     for (which = ASK_SHEET; which <= ASK_TURN; which++)
-        for (i = 0; i < 19 && which != ASK_LENGTHS; i++) {
-            label("number", (long)numbers[i]);
-            check((met((enum which)which, numbers[i]) > 0)
-                  == (can[which][i] == 'x'), "met where it should not, or not");
-        }
+        for (i = 0; i < 19 && which != ASK_LENGTHS; i++)
+            for (is_short = 0; is_short < 2; is_short++) {
+                label(is_short ? "short, number" : "number", (long)numbers[i]);
+                check((met((enum which)which, is_short, numbers[i]) > 0)
+                      == (can[which][i] == 'x'),
+                      "met where it should not, or not");
+            }
 }

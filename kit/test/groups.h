@@ -3,6 +3,12 @@
 #define GROUPS_H
 
 #include "lend.h"
+#include "sheets.h"
+
+/* For several groups: every call tells the sheet's fault.  The other buffers
+ * fit L 16, so that only the sheet can be the reason. */
+void sheet_refused(const char *name, const struct built *sheet,
+                   unsigned number, size_t place);
 
 void header_constants(void);
 void header_words(void);
@@ -41,8 +47,39 @@ void words_refusals(void);
 void words_fields(void);
 void words_fields_of_any(void);
 void words_refused_commands(void);
+void words_short_commands(void);
+void words_short_octets(void);
+void words_short_status(void);
+void words_short_fields(void);
+void words_short_lost(void);
+void words_short_random(void);
 void sheet_faults(void);
 void sheet_limits(void);
+void short_sheet_l(void);
+void short_sheet_taken(void);
+void short_sheet_places(void);
+void short_sheet_others(void);
+void short_sheet_cut(void);
+void short_sheet_faults(void);
+void short_accepted(void);
+void short_refused(void);
+void short_fields(void);
+void short_codes(void);
+void short_sizes(void);
+void short_connects(void);
+void short_writes(void);
+void short_watchdog(void);
+void short_tolerated(void);
+void short_helpers(void);
+void short_master(void);
+void short_replay_agrees(void);
+void short_replay_differs(void);
+void short_replay_noise(void);
+void short_replay_form(void);
+void short_accident(void);
+void short_lengths(void);
+void short_mixtures(void);
+void short_turn(void);
 void tolerance_range(void);
 void tolerance_places(void);
 void tolerance_cut(void);

@@ -11,7 +11,7 @@ static const unsigned numbers[] = {
 static const unsigned pair[][2] = {
     { T24_L8, 8 }, { T24_L16, 16 }, { T24_L32, 32 }, { T24_L48, 48 },
     { T24_L64, 64 }, { T24_L_MAX, 64 }, { T24_STATE_LEN, 11 },
-    { T24_OLD_STATE_LEN, 10 }, { T24_RELEASE, 2 },
+    { T24_OLD_STATE_LEN, 10 }, { T24_RELEASE, 3 },
     { T24_SHEET_MAX, 2048 }, { T24_MEMORY_MAX, 65536 },
     { T24_DONE, 0 }, { T24_BAD_STATE, 1 }, { T24_BAD_MEMORY, 2 },
     { T24_BAD_COMMAND, 3 }, { T24_BAD_REPLY, 4 }, { T24_IS_DISABLED, 5 },
@@ -68,7 +68,13 @@ static const unsigned pair[][2] = {
     { T24_CONNECT_AT_VERSION, 4 }, { T24_CONNECT_AT_COM_MOD, 5 },
     { T24_CONNECT_AT_COM_TIME, 6 }, { T24_CONNECT_AT_PROFILE, 7 },
     { T24_MEM_AT_ELEMENT, 5 }, { T24_MEM_AT_COUNT, 6 },
-    { T24_MEM_AT_ADDRESS, 8 }, { T24_MEM_AT_DATA, 12 }
+    { T24_MEM_AT_ADDRESS, 8 }, { T24_MEM_AT_DATA, 12 },
+    { T24_RECORD_SHORT_LINK, 5 }, { T24_RECORD_SHORT_LINK_LEN, 4 },
+    { T24_SHORT_COMMAND_AT_WDT, 15 }, { T24_SHORT_REPLY_AT_ALARM, 1 },
+    { T24_SHORT_REPLY_AT_STATUS, 2 }, { T24_SHORT_REPLY_AT_RWDT, 15 },
+    { T24_SHORT_PRM_AT_DATA, 7 }, { T24_SHORT_DATA_MAX, 8 },
+    { T24_SHORT_ID_AT_DATA, 7 }, { T24_SHORT_ALM_AT_COMMAND, 5 },
+    { T24_SHORT_ALM_AT_COMMUNICATION, 6 }
 };
 
 void header_constants(void)
@@ -84,15 +90,15 @@ void header_constants(void)
 /* The archive that is tested is the header's own; the version begins with it. */
 void header_release(void)
 {
-    check(t24_version() == 2, "release of the archive");
+    check(t24_version() == 3, "release of the archive");
     check(t24_release_fits(), "archive and header");
-    check(strncmp(T24_VERSION, "2.", 2) == 0, "version and release");
+    check(strncmp(T24_VERSION, "3.", 2) == 0, "version and release");
 }
 
 static void answers_taken_apart(void)
 {
     const uint64_t answer = ((uint64_t)0xFEDCBA98u << 32) + 0x76543210u;
-    static const uint8_t low[4] = { 0x3F, 0x44, 0x80, 0xC5 };
+    static const uint8_t low[4] = { 0x3F, 0x44, 0x80, 0xC5 }, enhanced[] = { 1 };
     uint8_t reply[4] = { 0xFF, 0xFF, 5, 0xC9 };
     unsigned identity;
 
@@ -102,12 +108,15 @@ static void answers_taken_apart(void)
     check(t24_memory(answer) == 0xFEDCBA98u, "memory of lengths");
     check(t24_trace_record(answer) == 0x3FB72EAu, "record of an answer");
     check(t24_trace_octet(answer) == 0x18, "octet of an answer");
-    check(t24_reply_alarm(reply) == 9, "alarm of a reply");
-    check(t24_reply_communication_alarm(reply) == 12, "latch of a reply");
+    check(t24_reply_alarm(enhanced, reply) == 9, "alarm of a reply");
+    check(t24_reply_communication_alarm(enhanced, reply) == 12,
+          "latch of a reply");
     for (identity = 0; identity < 4; identity++) {
         reply[2] = low[identity];
-        check(t24_reply_identity(reply) == identity, "identity of a reply");
-        check(t24_reply_tolerated(reply) == (identity == 0), "bit 1 of a reply");
+        check(t24_reply_identity(enhanced, reply) == identity,
+              "identity of a reply");
+        check(t24_reply_tolerated(enhanced, reply) == (identity == 0),
+              "bit 1 of a reply");
     }
 }
 

@@ -15,7 +15,7 @@ static struct {
 } lent[ROLES];
 
 static long calls, failures;
-static long answers[ASK_TURN + 1][NUMBERS];
+static long answers[ASK_TURN + 1][2][NUMBERS]; /* by call and type */
 static const char *group_name = "", *label_text = "";
 static long label_number;
 
@@ -111,10 +111,10 @@ static uint64_t ask(enum which which)
     }
 }
 
-void count_answer(enum which which, uint64_t answer)
+void count_answer(enum which which, int is_short, uint64_t answer)
 {
     if (t24_number(answer) < NUMBERS)
-        answers[which][t24_number(answer)]++;
+        answers[which][is_short][t24_number(answer)]++;
 }
 
 static int call_and_compare(enum which which, uint64_t answer, int back,
@@ -131,7 +131,8 @@ static int call_and_compare(enum which which, uint64_t answer, int back,
     if (locked)
         place_lock(0);
     calls++;
-    count_answer(which, got);
+    count_answer(which, lent[SHEET].len > 0 && t24_is_short(lent[SHEET].given),
+                 got);
     if (got != answer) {
         if (failures < REPORTS_SHOWN)
             fprintf(stderr, "  answer number %lu place %lu, wanted %lu %lu\n",
@@ -162,9 +163,9 @@ uint64_t built_at(uint32_t place)
     return T24_DONE + ((uint64_t)place << 32);
 }
 
-long met(enum which which, unsigned number)
+long met(enum which which, int is_short, unsigned number)
 {
-    return answers[which][number];
+    return answers[which][is_short][number];
 }
 
 void check(int right, const char *what)

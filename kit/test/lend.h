@@ -42,11 +42,12 @@ int expect(enum which which, uint64_t answer);
 /* As expect, but the buffers stand on one side of their places only. */
 int expect_on_side(enum which which, uint64_t answer, int back);
 
-/* Counts an answer, for calls that are not made by expect. */
-void count_answer(enum which which, uint64_t answer);
+/* Counts an answer, for calls that are not made by expect; the sheet's type is
+ * told by whether it is short. */
+void count_answer(enum which which, int is_short, uint64_t answer);
 
-/* How often a call has answered a number so far. */
-long met(enum which which, unsigned number);
+/* How often a call has answered a number so far, on sheets of either type. */
+long met(enum which which, int is_short, unsigned number);
 
 /* Counts and reports a condition that is no call. */
 void check(int right, const char *what);

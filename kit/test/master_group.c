@@ -15,7 +15,7 @@ void master_next_wdt(void)
         for (mn = 0; mn < 16; mn++) {
             label("RWDT", (long)(16 * rsn + mn));
             reply[1] = (uint8_t)(16 * rsn + mn);
-            check(t24_next_wdt(place(REPLY, reply, sizeof reply, 1))
+            check(t24_next_wdt(sheet_p, place(REPLY, reply, sizeof reply, 1))
                       == (mn < 15 ? 16 * rsn + mn + 1 : 16 * rsn),
                   "the next WDT");
         }
@@ -58,12 +58,13 @@ void master_in_step(void)
         enter(first);
         for (i = 0; i < 7 * 16; i++) {
             label("entered with MN, exchange", (long)(1000 * first + i));
-            exchange(codes[i % 7], t24_next_wdt(reply));
+            exchange(codes[i % 7], t24_next_wdt(sheet_p, reply));
             check(state[1] == 3, "still in link 3");
             check(reply[1] == 16 * ((i + 1) % 16) + (first + i + 1) % 16,
                   "RWDT");
-            check(t24_reply_alarm(reply) == alarms[i % 7], "alarm");
-            check(t24_reply_communication_alarm(reply) == 0, "no lost cycle");
+            check(t24_reply_alarm(sheet_p, reply) == alarms[i % 7], "alarm");
+            check(t24_reply_communication_alarm(sheet_p, reply) == 0,
+                  "no lost cycle");
         }
     }
 }
@@ -86,7 +87,7 @@ void master_repeats_sn(void)
         }
         check(good == (sn == 1), "lost with the first or the second");
         check(reply[1] == 0 && reply[3] == 0xC0, "the reply of a lost cycle");
-        check(t24_next_wdt(reply) == 1, "WDT behind a lost cycle");
+        check(t24_next_wdt(sheet_p, reply) == 1, "WDT behind a lost cycle");
     }
 }
 
@@ -101,7 +102,7 @@ static int tolerated(unsigned wdt)
                                   memory, sizeof memory, command, 16, reply, 16))
           == T24_DONE, "a reply");
     check(state[1] == 3, "still in link 3");
-    return t24_reply_tolerated(reply);
+    return t24_reply_tolerated(sheet.octets, reply);
 }
 
 /* Every third command does not arrive, or its reply does not, so that it is sent
@@ -111,14 +112,14 @@ void master_tolerated(void)
     unsigned i, wdt;
 
     enter(0);
-    check(!tolerated(t24_next_wdt(reply)), "the first");
+    check(!tolerated(t24_next_wdt(sheet_p, reply)), "the first");
     for (i = 0; i < 60; i++) {
         label("exchange", (long)i);
-        wdt = t24_next_wdt(reply);
+        wdt = t24_next_wdt(sheet_p, reply);
         check(!tolerated(wdt), "in step");
         if (i % 3 == 0)
             wdt = (wdt & 0xF0u) | ((wdt + 2u) & 0x0Fu); /* one not arrived */
         check(i % 3 == 2 || tolerated(wdt), "lost");
-        check(!tolerated(t24_next_wdt(reply)), "in step again");
+        check(!tolerated(t24_next_wdt(sheet_p, reply)), "in step again");
     }
 }

@@ -23,6 +23,7 @@ make_sheets() {
     octets 01 10 30 00 02 01 10 00 00 04 00 00 00 07 00 >"$work/unmapped.bin"
     octets 01 10 30 00 02 00 10 00 00 08 00 00 00 07 06 01 00 >"$work/tolerant.bin" # one lost cycle in a row
     octets 01 10 30 00 02 00 10 00 00 08 00 00 00 07 06 04 00 >"$work/tolerance.bin"
+    make_short_sheets
     cat >"$work/p.want" <<'END'
 L 16, memory 8 octets
 CONNECT    0E000400300001000000000000000000
@@ -33,6 +34,28 @@ CONNECT    0E010400300201000000000000000000
 MEM_RD     1D1204000021010000100000B4000000
 MEM_RD     1D2304000021010000100000B4000000
 MEM_RD     1D3404000021010000100000B4000000
+DISCONNECT 0F000400000000000000000000000000
+END
+}
+
+# The short type: sheet P's drive, one that tolerates a lost cycle, and faults.
+make_short_sheets() {
+    { octets 05 && tail -c +2 "$work/p.bin"; } >"$work/s.bin"
+    octets 05 10 30 77 02 00 10 00 00 08 00 00 00 07 03 07 00 00 10 00 00 02 06 01 00 >"$work/short-tolerant.bin"
+    octets 05 20 30 00 00 >"$work/short-l.bin"
+    octets 01 10 30 00 05 10 30 00 00 >"$work/two-links.bin"
+    octets 05 10 30 00 00 >"$work/short-bare.bin"
+    octets 05 10 30 00 02 00 10 00 00 04 00 00 00 01 03 07 00 02 10 00 00 02 00 >"$work/short-readonly.bin"
+    cat >"$work/s.want" <<'END'
+short type, L 16, memory 8 octets
+CONNECT    0E000400300001000000000000000000
+PRM_RD     01000400070002000000000000000000
+PRM_WR     02000400070002B40000000000000000
+DISCONNECT 0F000400000000000000000000000000
+CONNECT    0E000400300201000000000000000001
+PRM_RD     01000400070002B40000000000000012
+PRM_RD     01000400070002B40000000000000023
+PRM_RD     01000400070002B40000000000000034
 DISCONNECT 0F000400000000000000000000000000
 END
 }
@@ -52,7 +75,8 @@ test_example_sheet() {
         "$dist/doc/LINKING.md" >"$work/make-sheet"
     (cd "$work" && sh ./make-sheet) || fail "the page's command for a sheet"
     cmp "$work/example.sheet" "$dist/example/example.sheet" || fail "example.sheet"
-    echo "example.sheet is what the page makes"
+    cmp "$work/short.sheet" "$dist/example/short.sheet" || fail "short.sheet"
+    echo "example.sheet and short.sheet are what the page makes"
 }
 
 test_oven() {
@@ -76,13 +100,26 @@ test_oven() {
     refused_with unmapped.bin "MEM_WR refused: alarm 9 at octet 8, address: an octet from it on is in no region"
     refused_with readonly.bin "MEM_WR refused: alarm 10: octet 0 of the span, at address 00001000, lacks the right to be written out of step"
     refused_with second.bin "MEM_WR refused: alarm 10: octet 1 of the span, at address 00001001, lacks the right to be written out of step"
+    test_short_oven
     test_lost_cycles
     test_pkg_config
 }
 
+# The same host, and the helpers know the type.
+test_short_oven() {
+    run "$work/oven" "$work/s.bin" >"$work/out" || fail "oven with a short sheet"
+    cmp "$work/out" "$work/s.want" || fail "oven's short replies"
+    cat "$work/out"
+    run "$work/oven" "$dist/example/short.sheet" | cmp - "$work/s.want" || fail "oven with the short example"
+    refused_with short-l.bin "sheet refused: 14 at octet 0: short link record, L 32: only 16"
+    refused_with two-links.bin "sheet refused: 13 at octet 4: a short link record after a link record: one of them comes first and once"
+    refused_with short-bare.bin "PRM_RD refused: alarm 9 at octet 4, parameter number: not in the sheet"
+    refused_with short-readonly.bin "PRM_WR refused: alarm 10: octet 0 of the span, at address 00001002, lacks the right to be written out of step"
+}
+
 # deaf NAME EDIT WORDS [SHEET]: a host with this edit in its WDT is told why its cycle was lost.
 deaf() {
-    sed "s/t24_next_wdt(host->reply)/$2/" "$dist/example/oven.c" >"$work/deaf.c"
+    sed "s/t24_next_wdt(host->sheet, host->reply)/$2/" "$dist/example/oven.c" >"$work/deaf.c"
     ! cmp -s "$dist/example/oven.c" "$work/deaf.c" || fail "no edit: $1"
     $HAND -static "$work/deaf.c" $HAND_LIB -o "$work/deaf"
     must_fail "$1" "$3" hand "$work/deaf" "$work/${4:-p.bin}"
@@ -92,8 +129,10 @@ deaf() {
 test_lost_cycles() {
     deaf "a master that does not count" 0x10 \
         "^MEM_RD not executed, a cycle was lost: MN 1 expected, 0 seen; SN 1 expected, 1 seen$"
-    deaf "a master that does not read the replies" "t24_next_wdt(host->reply) \& 0x0F" \
+    deaf "a master that does not read the replies" "t24_next_wdt(host->sheet, host->reply) \& 0x0F" \
         "^MEM_RD not executed, a cycle was lost: MN 3 expected, 3 seen; SN 1 expected, 0 seen$"
+    must_fail "the same with the short type" \
+        "^PRM_RD not executed, a cycle was lost: MN 3 expected, 3 seen; SN 1 expected, 0 seen$" hand "$work/deaf" "$work/s.bin"
     test_tolerated
 }
 
@@ -106,7 +145,7 @@ test_tolerated() {
     grep -qx "MEM_RD     1D200600000000000000000000000000" "$work/out" || fail "the reply of a tolerated cycle"
     grep -qx "MEM_RD     1D0005C0000000000000000000000000" "$work/out" || fail "the reply of one more"
     # One reply is missed: the next command follows the reply that tells it, and the band runs on.
-    sed 's/^        memory_command(host, T24_MEM_RD, 0x1000);/&\n        host->command[1] ^= cycle == 1 ? 0x80 : 0;/' \
+    sed 's/^    heat_command(host, 0);/    static int reads;\n\n&\n    host->command[t24_wdt_at(host->sheet)] ^= ++reads == 3 ? 0x80 : 0;/' \
         "$dist/example/oven.c" >"$work/missed.c"
     ! cmp -s "$dist/example/oven.c" "$work/missed.c" || fail "no edit: a missed reply"
     $HAND -static "$work/missed.c" $HAND_LIB -o "$work/missed"
@@ -121,6 +160,22 @@ MEM_RD     1D3404000021010000100000B4000000
 DISCONNECT 0F000400000000000000000000000000
 END
     grep -v "not executed" "$work/band" | diff "$work/want" - || fail "the band does not run on"
+    test_short_tolerated
+}
+
+# The same host and the same miss with the short type, whose profile nobody asks.
+test_short_tolerated() {
+    must_fail "a reply that was missed, short" "^PRM_RD not executed, a cycle was lost: tolerated, 1 of 1 in a row: MN 3 expected, 3 seen; SN 1 expected, 9 seen$" \
+        hand "$work/missed" "$work/short-tolerant.bin"
+    sed -n '/^CONNECT    0E00040030020/,$p' "$work/out" >"$work/band"
+    cat >"$work/want" <<'END'
+CONNECT    0E000400300201000000000000000001
+PRM_RD     01000400070002B40000000000000012
+PRM_RD     01000600000000000000000000000023
+PRM_RD     01000400070002B40000000000000034
+DISCONNECT 0F000400000000000000000000000000
+END
+    grep -v "not executed" "$work/band" | diff "$work/want" - || fail "the short band does not run on"
 }
 
 test_pkg_config() {

@@ -30,6 +30,7 @@ test_processor() (
         || flags=$(PKG_CONFIG_PATH="$dist/$1/lib/pkgconfig" pkg-config --cflags --libs type24)
     $OTHER_CC -std=c99 $WARN -static "$dist/example/oven.c" $flags -o "$work/oven-$1"
     run "$work/oven-$1" "$work/p.bin" | cmp - "$work/p.want" || fail "oven for $1"
+    run "$work/oven-$1" "$work/s.bin" | cmp - "$work/s.want" || fail "oven for $1, short"
     echo "$1: ok"
 )
 

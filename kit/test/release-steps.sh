@@ -1,11 +1,12 @@
-# Sourced by steps.sh: hosts and archives of different releases. The headers of release 1, as they were given out, stand in release1.
+# Sourced by steps.sh: hosts and archives of different releases. The headers of release 1, as they were given out, stand in release1, and in release2
+# the one header of release 2 that says its release.
 # shellcheck shell=sh disable=SC2086,SC2154 # several words, set by test-kit
 
 # headers_of RELEASE: the kit's headers, of another release by their number alone.
 headers_of() {
     rm -rf "$work/headers"
     cp -r "$dist/include" "$work/headers"
-    sed -e "s/T24_RELEASE 2 /T24_RELEASE $1 /" -e "s/T24_VERSION \"2\./T24_VERSION \"$1./" \
+    sed -e "s/T24_RELEASE 3 /T24_RELEASE $1 /" -e "s/T24_VERSION \"3\./T24_VERSION \"$1./" \
         "$dist/include/type24_release.h" >"$work/headers/type24_release.h"
     ! cmp -s "$dist/include/type24_release.h" "$work/headers/type24_release.h" || fail "no edit: release $1"
 }
@@ -15,7 +16,7 @@ test_old_host() {
     headers_of 1
     old_host="-std=c99 -O2 $WARN -Irelease1 -I$work/headers release1/host.c"
     cat >"$work/want" <<'END'
-release: the archive is of release 2, this header of release 1: a host needs both out of one kit
+release: the archive is of release 3, this header of release 1: a host needs both out of one kit
 sheet: 0, L 16, memory 8
 reset: 1: state record of wrong length or not valid
 enable: 1: state record of wrong length or not valid
@@ -67,16 +68,16 @@ says() {
 
 # The check comes before all else: before the words of the call, and before a file is opened.
 test_release_check() {
-    headers_of 3
-    misfit="the archive is of release 2, this header of release 3: a host needs both out of one kit"
-    $HAND_CC -std=c99 -O2 $WARN -static -I"$work/headers" "$dist/example/oven.c" $HAND_LIB -o "$work/oven-3"
-    says 2 "oven: $misfit" hand "$work/oven-3"
-    says 2 "oven: $misfit" hand "$work/oven-3" "$work/none.bin"
-    $HAND_CC -std=c99 -O2 $WARN -static -I"$work/headers" "$dist/example/explain.c" $HAND_LIB -o "$work/explain-3"
-    says 2 "t24-explain: libtype24.a: $misfit" hand "$work/explain-3" --help
+    headers_of 4
+    misfit="the archive is of release 3, this header of release 4: a host needs both out of one kit"
+    $HAND_CC -std=c99 -O2 $WARN -static -I"$work/headers" "$dist/example/oven.c" $HAND_LIB -o "$work/oven-4"
+    says 2 "oven: $misfit" hand "$work/oven-4"
+    says 2 "oven: $misfit" hand "$work/oven-4" "$work/none.bin"
+    $HAND_CC -std=c99 -O2 $WARN -static -I"$work/headers" "$dist/example/explain.c" $HAND_LIB -o "$work/explain-4"
+    says 2 "t24-explain: libtype24.a: $misfit" hand "$work/explain-4" --help
     $HAND -static "$dist/example/oven.c" spoil_turn.c $HAND_LIB -Wl,--wrap=t24_turn -Wl,--wrap=t24_version -o "$work/oven-1"
     export SPOIL=44
-    says 2 "oven: the archive is of release 1, this header of release 2: a host needs both out of one kit" \
+    says 2 "oven: the archive is of release 1, this header of release 3: a host needs both out of one kit" \
         hand "$work/oven-1" "$work/p.bin"
     unset SPOIL
 }
@@ -90,10 +91,31 @@ test_old_archive() {
     must_fail "an archive of release 1 under a host of this one" "t24_version" $HAND "$dist/example/oven.c" "$work/six.o" -o "$work/oven-six"
 }
 
-test_release_1() {
+# A host of release 2 would read a short reply's alarm in its status, where it never is; so it is told before its first call.
+test_host_2() {
+    misfit="the archive is of release 3, this header of release 2: a host needs both out of one kit"
+    $HAND_CC -std=c99 -O2 $WARN -static -Irelease2 -I"$dist/include" release2/host.c $HAND_LIB -o "$work/host-2"
+    says 1 "$misfit" hand "$work/host-2"
+    cp -r "$dist/include" "$work/headers-2"
+    cp release2/type24_release.h "$work/headers-2/"
+    $HAND_CC -std=c99 -O2 $WARN -static -I"$work/headers-2" "$dist/example/oven.c" $HAND_LIB -o "$work/oven-2"
+    says 2 "oven: $misfit" hand "$work/oven-2" "$work/s.bin"
+}
+
+# What reads a reply without a sheet must not compile: it would take every refused short command for an accepted one.
+test_old_reader() {
+    printf '#include "type24.h"\nint main(void)\n{\n    const uint8_t reply[16] = { 0 };\n    return (int)t24_reply_alarm(reply);\n}\n' \
+        >"$work/reader.c"
+    must_fail "a host that reads a reply without a sheet" "too few arguments" $HAND -c "$work/reader.c" -o "$work/reader.o"
+}
+
+test_releases() {
     say "a host of release 1"
     test_old_host
     test_careless
+    say "a host of release 2"
+    test_host_2
+    test_old_reader
     say "headers and archive of different releases"
     test_release_check
     test_old_archive

@@ -94,8 +94,8 @@ void replay_refusals(void)
 }
 
 /* Told of a trace by itself, without lending it between fences. */
-static void told(const uint8_t *trace, size_t len, unsigned link,
-                 uint64_t answer)
+static void told_by(const struct built *sheet, const uint8_t *trace, size_t len,
+                    unsigned link, uint64_t answer)
 {
     uint8_t state[T24_STATE_LEN], memory[sizeof memory_p];
     uint64_t got;
@@ -104,13 +104,25 @@ static void told(const uint8_t *trace, size_t len, unsigned link,
     memcpy(memory, memory_p, sizeof memory);
     state[T24_AT_LINK] = (uint8_t)link;
     state[T24_AT_COM_TIME] = link >= T24_LINK_ASYNC;
-    got = t24_replay(sheet_p, sizeof sheet_p, state, sizeof state, memory,
+    got = t24_replay(sheet->octets, sheet->len, state, sizeof state, memory,
                      sizeof memory, trace, len);
-    count_answer(ASK_REPLAY, got);
+    count_answer(ASK_REPLAY, t24_is_short(sheet->octets), got);
     check(got == answer, "answer");
     check(state[T24_AT_LINK] == link
           && memcmp(state + 5, state_a + 5, 5) == 0, "state changed");
     check(memcmp(memory, memory_p, sizeof memory) == 0, "memory changed");
+}
+
+/* On sheets of both types. */
+static void told(const uint8_t *trace, size_t len, unsigned link,
+                 uint64_t answer)
+{
+    struct built sheet;
+
+    build_p(&sheet, 16);
+    told_by(&sheet, trace, len, link, answer);
+    build_short(&sheet);
+    told_by(&sheet, trace, len, link, answer);
 }
 
 /* Zeros that nobody touches take no room, so a gigabyte of them is cheap. */

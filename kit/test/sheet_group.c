@@ -4,9 +4,8 @@
 
 #include <string.h>
 
-/* The other buffers fit L 16, so only the sheet can be the reason. */
-static void refused(const char *name, const struct built *sheet,
-                    unsigned number, size_t place)
+void sheet_refused(const char *name, const struct built *sheet,
+                   unsigned number, size_t place)
 {
     const uint64_t answer = number + ((uint64_t)place << 32);
 
@@ -16,6 +15,7 @@ static void refused(const char *name, const struct built *sheet,
     give(MEMORY, memory_p, sizeof memory_p);
     give_noise(COMMAND, 16);
     give_noise(REPLY, 16);
+    give(TRACE, NULL, 0);
     give(OLD, old_a, sizeof old_a);
     expect(ASK_SHEET, answer);
     expect(ASK_LENGTHS, 0);
@@ -44,14 +44,14 @@ static void cut_sheets(void)
         for (place = 0, i = 0; i < 5; i++)
             if (starts[i] <= len)
                 place = starts[i];
-        refused("cut", &sheet, 11, place);
+        sheet_refused("cut", &sheet, 11, place);
     }
     build_p(&sheet, 16);
     while (sheet.len < T24_SHEET_MAX + 1)
         add_octet(&sheet, 0);
-    refused("one octet over the longest", &sheet, 11, 0);
+    sheet_refused("one octet over the longest", &sheet, 11, 0);
     sheet.len = T24_SHEET_MAX;
-    refused("longest, but with octets behind the end", &sheet, 13, 33);
+    sheet_refused("longest, but with octets behind the end", &sheet, 13, 33);
 }
 
 static void unknown_kinds(void)
@@ -59,14 +59,14 @@ static void unknown_kinds(void)
     struct built sheet;
 
     sheet.len = 0;
-    add_octet(&sheet, 5);
-    refused("unknown kind first, cut too", &sheet, 12, 0);
+    add_octet(&sheet, 7);
+    sheet_refused("unknown kind first, cut too", &sheet, 12, 0);
     start(&sheet);
     add_octet(&sheet, 0xFF);
-    refused("unknown kind second", &sheet, 12, 4);
+    sheet_refused("unknown kind second", &sheet, 12, 4);
     build_p(&sheet, 16);
-    sheet.octets[32] = 5;
-    refused("unknown kind for the end", &sheet, 12, 32);
+    sheet.octets[32] = 7;
+    sheet_refused("unknown kind for the end", &sheet, 12, 32);
 }
 
 static void kinds_out_of_place(void)
@@ -75,23 +75,23 @@ static void kinds_out_of_place(void)
 
     sheet.len = 0;
     add_end(&sheet);
-    refused("end first", &sheet, 13, 0);
+    sheet_refused("end first", &sheet, 13, 0);
     sheet.len = 0;
     add_octet(&sheet, T24_RECORD_REGION);
-    refused("region first, cut too", &sheet, 13, 0);
+    sheet_refused("region first, cut too", &sheet, 13, 0);
     start(&sheet);
     add_octet(&sheet, T24_RECORD_LINK);
-    refused("second link, cut too", &sheet, 13, 4);
+    sheet_refused("second link, cut too", &sheet, 13, 4);
     build_p(&sheet, 16);
     sheet.octets[32] = T24_RECORD_REGION;
-    refused("region behind a parameter", &sheet, 13, 32);
+    sheet_refused("region behind a parameter", &sheet, 13, 32);
     start(&sheet);
     add_item(&sheet, 1, 4);
     add_octet(&sheet, T24_RECORD_PARAMETER);
-    refused("parameter behind an item", &sheet, 13, 39);
+    sheet_refused("parameter behind an item", &sheet, 13, 39);
     build_p(&sheet, 16);
     add_octet(&sheet, 0xFF);
-    refused("an octet behind the end", &sheet, 13, 33);
+    sheet_refused("an octet behind the end", &sheet, 13, 33);
 }
 
 static void region_with(const char *name, uint64_t start_at, uint64_t length,
@@ -103,7 +103,7 @@ static void region_with(const char *name, uint64_t start_at, uint64_t length,
     add_region(&sheet, 0x1000, 4, 3);
     add_region(&sheet, start_at, length, rights);
     add_end(&sheet);
-    refused(name, &sheet, number, 14);
+    sheet_refused(name, &sheet, number, 14);
 }
 
 static void parameter_with(const char *name, unsigned parameter,
@@ -117,7 +117,7 @@ static void parameter_with(const char *name, unsigned parameter,
     add_parameter(&sheet, 7, 0x1000, 1);
     add_parameter(&sheet, parameter, address, size);
     add_end(&sheet);
-    refused(name, &sheet, number, 32);
+    sheet_refused(name, &sheet, number, 32);
 }
 
 static void item_with(const char *name, unsigned code, unsigned length,
@@ -129,7 +129,7 @@ static void item_with(const char *name, unsigned code, unsigned length,
     add_item(&sheet, 7, 4);
     add_item(&sheet, code, length);
     add_end(&sheet);
-    refused(name, &sheet, number, 39);
+    sheet_refused(name, &sheet, number, 39);
 }
 
 static void bad_fields(void)
@@ -137,9 +137,9 @@ static void bad_fields(void)
     struct built sheet;
 
     build_p(&sheet, 9);
-    refused("L 9", &sheet, 14, 0);
+    sheet_refused("L 9", &sheet, 14, 0);
     build_p(&sheet, 0);
-    refused("L 0", &sheet, 14, 0);
+    sheet_refused("L 0", &sheet, 14, 0);
     region_with("region of length 0", 0x2000, 0, 3, 14);
     region_with("region past 2^32", 0xFFFFFFFFu, 2, 3, 14);
     region_with("rights bit 3", 0x2000, 4, 8, 14);
@@ -150,7 +150,7 @@ static void bad_fields(void)
     start(&sheet);
     add_item(&sheet, 7, 31);
     sheet.octets[4 + 34] = 1;
-    refused("item octet past its length", &sheet, 14, 4);
+    sheet_refused("item octet past its length", &sheet, 14, 4);
 }
 
 static void order_and_span(void)
@@ -174,7 +174,7 @@ static void first_fault_of_two(void)
     start(&sheet);
     add_region(&sheet, 0x1000, 0, 9);
     add_octet(&sheet, 0xEE);
-    refused("range before a later unknown kind", &sheet, 14, 4);
+    sheet_refused("range before a later unknown kind", &sheet, 14, 4);
     region_with("range before overlap", 0x1000, 0, 3, 14);
     region_with("excess before overlap", 0x1000, 65536, 3, 16);
     region_with("range before excess", 0x1000, 70000, 8, 14);

@@ -1,6 +1,7 @@
 /* Sheets to test with, put together record by record. */
 #include "sheets.h"
 
+#include <stdio.h>
 #include <string.h>
 
 const uint8_t sheet_p[33] = {
@@ -31,12 +32,22 @@ static void add_number(struct built *sheet, uint64_t value, int count)
         add_octet(sheet, (unsigned)(value & 0xFFu));
 }
 
-void add_link(struct built *sheet, unsigned l)
+static void add_link_of(struct built *sheet, unsigned kind, unsigned l)
 {
-    add_octet(sheet, T24_RECORD_LINK);
+    add_octet(sheet, kind);
     add_octet(sheet, l);
     add_octet(sheet, 0x30);
     add_octet(sheet, 0x00);
+}
+
+void add_link(struct built *sheet, unsigned l)
+{
+    add_link_of(sheet, T24_RECORD_LINK, l);
+}
+
+void add_short_link(struct built *sheet, unsigned l)
+{
+    add_link_of(sheet, T24_RECORD_SHORT_LINK, l);
 }
 
 void add_region(struct built *sheet, uint64_t start, uint64_t length,
@@ -79,6 +90,18 @@ void add_end(struct built *sheet)
     add_octet(sheet, T24_RECORD_END);
 }
 
+void read_hex(struct built *sheet, const char *hex)
+{
+    unsigned octet;
+    int used;
+
+    sheet->len = 0;
+    while (sscanf(hex, "%2x%n", &octet, &used) == 1) {
+        add_octet(sheet, octet);
+        hex += used;
+    }
+}
+
 void build_p(struct built *sheet, unsigned l)
 {
     memcpy(sheet->octets, sheet_p, sizeof sheet_p);
@@ -92,6 +115,18 @@ void build_tolerant(struct built *sheet, unsigned l, unsigned tolerance)
     sheet->len--;
     add_tolerance(sheet, tolerance);
     add_end(sheet);
+}
+
+void build_short(struct built *sheet)
+{
+    build_p(sheet, 16);
+    sheet->octets[0] = T24_RECORD_SHORT_LINK;
+}
+
+void build_short_tolerant(struct built *sheet, unsigned tolerance)
+{
+    build_tolerant(sheet, 16, tolerance);
+    sheet->octets[0] = T24_RECORD_SHORT_LINK;
 }
 
 void build_largest(struct built *sheet, unsigned l)

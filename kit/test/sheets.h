@@ -19,6 +19,7 @@ extern const uint8_t all_l[5];
 
 void add_octet(struct built *sheet, unsigned octet);
 void add_link(struct built *sheet, unsigned l);
+void add_short_link(struct built *sheet, unsigned l);
 void add_region(struct built *sheet, uint64_t start, uint64_t length,
                 unsigned rights);
 void add_parameter(struct built *sheet, unsigned number, uint64_t address,
@@ -27,11 +28,18 @@ void add_item(struct built *sheet, unsigned code, unsigned length);
 void add_tolerance(struct built *sheet, unsigned count);
 void add_end(struct built *sheet);
 
+/* The octets of a line of hex. */
+void read_hex(struct built *sheet, const char *hex);
+
 /* Sheet P with another L. */
 void build_p(struct built *sheet, unsigned l);
 
 /* Sheet P with another L and, behind its parameter, a tolerance record. */
 void build_tolerant(struct built *sheet, unsigned l, unsigned tolerance);
+
+/* Sheet P with the short type, and the same with a tolerance record. */
+void build_short(struct built *sheet);
+void build_short_tolerant(struct built *sheet, unsigned tolerance);
 
 /* Every record there may be: the most a call ever has to read. */
 void build_largest(struct built *sheet, unsigned l);

@@ -7,6 +7,7 @@
  */
 #include "spoil.h"
 #include "spoil_lost.h"
+#include "spoil_short.h"
 
 #include <string.h>
 
@@ -37,7 +38,7 @@ uint64_t __wrap_t24_sheet(const uint8_t *sheet, size_t len)
         return answer + ((uint64_t)1 << 32); /* a place one too far */
     if (spoil(2) && t24_number(answer) == T24_SHEET_EXCESS)
         return answer - 1; /* order told for excess */
-    return answer;
+    return spoil_short_sheet(answer, sheet);
 }
 
 uint64_t __wrap_t24_lengths(const uint8_t *sheet, size_t len)
@@ -110,9 +111,10 @@ static void spoil_buffers(uint64_t answer, const uint8_t *sheet,
 }
 
 /* The identity lost in one kind of reply, or a bit too many come back. */
-static void spoil_identity(uint8_t *reply, const uint8_t *command)
+static void spoil_identity(const uint8_t *sheet, uint8_t *reply,
+                           const uint8_t *command)
 {
-    const unsigned alarm = t24_reply_alarm(reply);
+    const unsigned alarm = t24_reply_alarm(sheet, reply);
 
     if ((spoil(20) && alarm != T24_ALARM_NONE)
         || (spoil(21) && reply[T24_REPLY_AT_STATUS + 1] == 0xC0))
@@ -122,10 +124,10 @@ static void spoil_identity(uint8_t *reply, const uint8_t *command)
 }
 
 /* Another octet told as the wrong one, or one told where none is wrong. */
-static uint64_t spoil_place(uint64_t answer, const uint8_t *reply,
-                            const uint8_t *command)
+static uint64_t spoil_place(uint64_t answer, const uint8_t *sheet,
+                            const uint8_t *reply, const uint8_t *command)
 {
-    const unsigned alarm = t24_reply_alarm(reply);
+    const unsigned alarm = t24_reply_alarm(sheet, reply);
     const uint64_t one = (uint64_t)1 << 32;
 
     if (spoil(24) && alarm != T24_ALARM_NONE)
@@ -141,23 +143,37 @@ static uint64_t spoil_place(uint64_t answer, const uint8_t *reply,
 }
 
 /* The watchdog asks too little, or too early: tells the command as it is seen. */
-static const uint8_t *spoil_watchdog(uint8_t *state, size_t state_len,
-                                     const uint8_t *command, size_t command_len)
+static const uint8_t *spoil_watchdog(const uint8_t *sheet, uint8_t *state,
+                                     size_t state_len, const uint8_t *command,
+                                     size_t command_len)
 {
     static uint8_t seen[T24_L_MAX];
 
-    if (state_len != T24_STATE_LEN || state[T24_AT_LINK] != T24_LINK_SYNC
-        || command_len < T24_L8 || command_len > T24_L_MAX)
+    if (state_len != T24_STATE_LEN || state[T24_AT_LINK] != T24_LINK_SYNC)
         return command;
     memcpy(seen, command, command_len);
     if (spoil(28) && t24_watchdog_asks(state)) /* SN is not asked */
-        seen[T24_COMMAND_AT_WDT] =
-            (uint8_t)(16 * t24_expected_sn(state) + t24_mn(command));
-    if (spoil(29) && !t24_watchdog_asks(state) && t24_sn(command) != 0) {
+        t24_put_wdt(sheet, seen, (uint8_t)(16 * t24_expected_sn(state)
+                                           + t24_mn(sheet, command)));
+    if (spoil(29) && !t24_watchdog_asks(state) && t24_sn(sheet, command) != 0) {
         state[T24_AT_MN_KNOWN] = 1; /* SN is asked, though MN is not known */
-        state[T24_AT_LAST_MN] = (uint8_t)t24_mn(command);
+        state[T24_AT_LAST_MN] = (uint8_t)t24_mn(sheet, command);
     }
     return spoil(28) ? seen : command;
+}
+
+/* The same of both types, where the command's length is the sheet's L. */
+static const uint8_t *spoil_command(const uint8_t *sheet, size_t sheet_len,
+                                    uint8_t *state, size_t state_len,
+                                    const uint8_t *command, size_t command_len)
+{
+    if (sheet_len <= T24_SHEET_AT_L || command_len != sheet[T24_SHEET_AT_L]
+        || command_len < T24_L8 || command_len > T24_L_MAX)
+        return command;
+    if (t24_is_short(sheet) && command_len != T24_L16)
+        return command;
+    command = spoil_watchdog(sheet, state, state_len, command, command_len);
+    return t24_is_short(sheet) ? spoil_short_command(sheet, command) : command;
 }
 
 uint64_t __wrap_t24_exchange(const uint8_t *sheet, size_t sheet_len,
@@ -166,7 +182,8 @@ uint64_t __wrap_t24_exchange(const uint8_t *sheet, size_t sheet_len,
                              const uint8_t *command, size_t command_len,
                              uint8_t *reply, size_t reply_len)
 {
-    const uint8_t *seen = spoil_watchdog(state, state_len, command, command_len);
+    const uint8_t *seen = spoil_command(sheet, sheet_len, state, state_len,
+                                        command, command_len);
     uint8_t before[T24_STATE_LEN] = { 0 };
     uint64_t answer;
 
@@ -176,19 +193,21 @@ uint64_t __wrap_t24_exchange(const uint8_t *sheet, size_t sheet_len,
                                  state, state_len, memory, memory_len, seen,
                                  command_len, reply, reply_len);
     if (t24_number(answer) == T24_DONE)
-        answer = spoil_tolerated(answer, before, state, memory, memory_len,
-                                 reply);
+        answer = spoil_tolerated(answer, sheet, before, state, memory,
+                                 memory_len, reply);
     if (spoil_order(memory_len, command_len, reply_len, answer))
         answer = T24_BAD_REPLY;
     if (spoil(16) && t24_number(answer) == T24_DONE
         && state[T24_AT_LAST_MN] == 15)
         state[T24_AT_LAST_MN] = 14; /* 15 to 0 then looks like a lost cycle */
     if (t24_number(answer) == T24_DONE)
-        spoil_identity(reply, command);
+        spoil_identity(sheet, reply, command);
+    if (t24_number(answer) == T24_DONE && t24_is_short(sheet))
+        spoil_short_reply(reply, command);
     spoil_buffers(answer, sheet, memory, memory_len, command, command_len,
                   reply, reply_len);
-    return t24_number(answer) == T24_DONE ? spoil_place(answer, reply, command)
-                                          : answer;
+    return t24_number(answer) != T24_DONE
+        ? answer : spoil_place(answer, sheet, reply, command);
 }
 
 uint64_t __wrap_t24_replay(const uint8_t *sheet, size_t sheet_len,

@@ -22,17 +22,18 @@ static const uint8_t *spoil_tolerance(const uint8_t *sheet, size_t sheet_len)
 }
 
 /* A reply without a tolerated lost cycle: the row, or its bit, out of place. */
-static void spoil_kept(const uint8_t *before, uint8_t *state, uint8_t *reply)
+static void spoil_kept(const uint8_t *sheet, const uint8_t *before,
+                       uint8_t *state, uint8_t *reply)
 {
     const int left = before[T24_AT_LINK] == T24_LINK_SYNC
-        && t24_reply_communication_alarm(reply) != 0
+        && t24_reply_communication_alarm(sheet, reply) != 0
         && before[T24_AT_COMMUNICATION_ALARM] == 0;
 
     if (spoil(30) && state[T24_AT_LINK] == T24_LINK_SYNC
-        && t24_reply_alarm(reply) == T24_ALARM_NONE)
+        && t24_reply_alarm(sheet, reply) == T24_ALARM_NONE)
         state[T24_AT_FAILURES] = before[T24_AT_FAILURES]; /* not in a row */
     if (spoil(39) && state[T24_AT_LINK] == T24_LINK_SYNC
-        && t24_reply_alarm(reply) != T24_ALARM_NONE)
+        && t24_reply_alarm(sheet, reply) != T24_ALARM_NONE)
         state[T24_AT_FAILURES] = before[T24_AT_FAILURES]; /* refused keeps it */
     if (spoil(40) && left)
         reply[T24_REPLY_AT_STATUS] |= T24_STATUS_TOLERATED;
@@ -41,12 +42,15 @@ static void spoil_kept(const uint8_t *before, uint8_t *state, uint8_t *reply)
 }
 
 /* What comes of a built reply; tells the answer. */
-static uint64_t spoil_tolerated(uint64_t answer, const uint8_t *before,
-                                uint8_t *state, uint8_t *memory,
-                                size_t memory_len, uint8_t *reply)
+static uint64_t spoil_tolerated(uint64_t answer, const uint8_t *sheet,
+                                const uint8_t *before, uint8_t *state,
+                                uint8_t *memory, size_t memory_len,
+                                uint8_t *reply)
 {
-    if (!t24_reply_tolerated(reply)) {
-        spoil_kept(before, state, reply);
+    uint8_t *rwdt = reply + t24_rwdt_at(sheet);
+
+    if (!t24_reply_tolerated(sheet, reply)) {
+        spoil_kept(sheet, before, state, reply);
         return answer;
     }
     if (spoil(31) && reply[0] == T24_MEM_WR)
@@ -57,15 +61,14 @@ static uint64_t spoil_tolerated(uint64_t answer, const uint8_t *before,
         state[T24_AT_LAST_MN] = (uint8_t)t24_expected_mn(before);
     if (spoil(34)) {
         state[T24_AT_RSN] = before[T24_AT_RSN]; /* RSN does not advance */
-        reply[T24_REPLY_AT_RWDT] =
-            (uint8_t)(16 * before[T24_AT_RSN] + reply[T24_REPLY_AT_RWDT] % 16);
+        *rwdt = (uint8_t)(16 * before[T24_AT_RSN] + *rwdt % 16);
     }
     if (spoil(37))
         state[T24_AT_COMMUNICATION_ALARM] = T24_ALARM_COMMUNICATION;
     if (spoil(38))
         state[T24_AT_FAILURES] = before[T24_AT_FAILURES]; /* nothing counted */
     if (spoil(42))
-        reply[T24_REPLY_AT_RWDT] = 0;
+        *rwdt = 0;
     return spoil(43) ? answer + ((uint64_t)4 << 32) : answer;
 }
 

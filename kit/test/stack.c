@@ -1,8 +1,8 @@
 /* Measures the stack that every call needs, alone, less what an empty function
- * takes there: on the smallest sheet, on the largest, and on the largest with a
- * last region that gives no right; every code in every link, accepted, refused,
- * and in a cycle that is lost, tolerated or not; refused calls; old records;
- * traces that agree, that differ and that have a fault.
+ * takes there: on the smallest sheet, on the largest, on the largest of the short
+ * type, and on the largest with a last region that gives no right; every code in
+ * every link, accepted, refused, and in a cycle that is lost, tolerated or not;
+ * refused calls; old records; traces that agree, that differ and that have a fault.
  * Fails where a call takes what the header promises, or more. */
 #include "painted.h"
 #include "sheets.h"
@@ -128,21 +128,27 @@ static void measure_refused_calls(void)
     }
 }
 
+/* As much data as a command of this L can carry, and a parameter of the largest
+ * sheet has. */
+static size_t most_data(void)
+{
+    return l - T24_PRM_AT_DATA;
+}
+
 /* A command that the largest sheet accepts, or with every field wrong. */
 static void make_command(unsigned code, int wrong)
 {
     memset(command, wrong ? 0xFF : 0, sizeof command);
     command[0] = (uint8_t)code;
-    command[T24_COMMAND_AT_WDT] = 0;
     if (wrong)
         return;
     if (code == T24_PRM_RD || code == T24_PRM_WR) {
         command[T24_PRM_AT_NUMBER] = 63; /* the last one, in two regions */
-        command[T24_PRM_AT_SIZE] = 56;
+        command[T24_PRM_AT_SIZE] = (uint8_t)most_data();
     }
     if (code == T24_ID_RD) {
         command[T24_ID_AT_CODE] = 31;
-        command[T24_ID_AT_SIZE] = 32;
+        command[T24_ID_AT_SIZE] = (uint8_t)(most_data() < 32 ? most_data() : 32);
     }
     if (code == T24_CONNECT) {
         command[T24_CONNECT_AT_VERSION] = 0x30;
@@ -172,13 +178,13 @@ static void enter(unsigned link)
 static void measure_exchange(unsigned code, int wrong, int lost)
 {
     make_command(code, wrong);
-    command[T24_COMMAND_AT_WDT] = (uint8_t)(lost ? 5 : 0); /* 0 follows 15 */
+    t24_put_wdt(sheet.octets, command, lost ? 5 : 0); /* 0 follows 15 */
     memcpy(state, start, sizeof start);
     measure(EXCHANGE);
     must(t24_number(answer) == T24_DONE, "an exchange that is executed");
-    tolerated += (unsigned)t24_reply_tolerated(reply);
-    left += t24_reply_communication_alarm(reply) != 0;
-    if (t24_reply_alarm(reply) != 0)
+    tolerated += (unsigned)t24_reply_tolerated(sheet.octets, reply);
+    left += t24_reply_communication_alarm(sheet.octets, reply) != 0;
+    if (t24_reply_alarm(sheet.octets, reply) != 0)
         refused[code]++;
     else if (!lost)
         accepted[code]++;
@@ -191,7 +197,8 @@ static void measure_replay(void)
     size_t change;
 
     trace_len = 1 + 2 * l;
-    trace[0] = (uint8_t)(l == T24_L8 ? T24_TRACE_8 : T24_TRACE_64);
+    trace[0] = (uint8_t)(l == T24_L8 ? T24_TRACE_8
+                         : l == T24_L16 ? T24_TRACE_16 : T24_TRACE_64);
     memcpy(trace + 1, command, l);
     memcpy(trace + 1 + l, reply, l);
     for (change = 0; change < 3; change++) {
@@ -261,6 +268,12 @@ int main(void)
     add_link(&sheet, T24_L8);
     add_end(&sheet);
     lend(T24_L8, 0);
+    measure_sheet();
+    build_largest(&sheet, T24_L16);
+    sheet.octets[0] = T24_RECORD_SHORT_LINK;
+    for (which = 0; which < 64; which++) /* parameters of 8 octets */
+        sheet.octets[4 + 10 * 32 + 8 * which + T24_PARAMETER_AT_SIZE] = 8;
+    lend(T24_L16, T24_MEMORY_MAX);
     measure_sheet();
     build_largest(&sheet, T24_L64);
     lend(T24_L64, T24_MEMORY_MAX);

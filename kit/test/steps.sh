@@ -6,12 +6,12 @@ CHECKED="valgrind -q --error-exitcode=9"
 
 test_contents() {
     say "contents"
-    for file in include/type24.h include/type24_octets.h include/type24_answers.h include/type24_reply.h \
+    for file in include/type24.h include/type24_octets.h include/type24_short.h include/type24_answers.h include/type24_reply.h \
         include/type24_watchdog.h include/type24_release.h include/type24_words.h include/type24_version.h \
         x86_64/lib/libtype24.a x86_64/lib/pkgconfig/type24.pc \
         lib/libtype24.a lib/pkgconfig/type24.pc doc/LINKING.md doc/PROCESSORS.md \
         doc/INTEGRATOR.md doc/FITTER.md doc/ENGINEER.md doc/RULES.md doc/rules/calls.md \
-        example/oven.c example/example.sheet example/explain.c bin/t24-explain \
+        example/oven.c example/example.sheet example/short.sheet example/explain.c bin/t24-explain \
         bin/bench bin/replayer bin/t24-hex VERSION; do
         [ -f "$dist/$file" ] || fail "the kit lacks $file"
     done
@@ -64,6 +64,16 @@ test_with_sanitizer() {
     run "$work/boundary-sanitized" || fail "boundary with sanitizer"
 }
 
+# build_objects FOLDER COMPILER SOURCE...: each source compiled once, for several programs.
+build_objects() {
+    folder=$1 compiler=$2
+    shift 2
+    mkdir "$folder"
+    for source in "$@"; do
+        $compiler -c "$source" -o "$folder/${source%.c}.o"
+    done
+}
+
 # With every buffer in a block of its own a checker sees an overrun of one octet.
 test_with_checkers() {
     if [ -z "$at_hand" ]; then
@@ -71,22 +81,25 @@ test_with_checkers() {
         return
     fi
     need_checkers
-    blocks="gcc -std=c99 -O2 -g $WARN -I$dist/include $BLOCKS"
+    blocks="gcc -std=c99 -O2 -g $WARN -I$dist/include"
+    address="$blocks $UNDEFINED -fsanitize=address"
     say "boundary, C99, valgrind"
-    $blocks "$work/at-hand.a" -o "$work/boundary-valgrind"
+    build_objects "$work/blocks" "$blocks" $BLOCKS
+    $blocks "$work/blocks"/*.o "$work/at-hand.a" -o "$work/boundary-valgrind"
     $CHECKED "$work/boundary-valgrind" || fail "boundary under valgrind"
     say "boundary, C99, address and undefined sanitizers"
-    $blocks $UNDEFINED -fsanitize=address "$work/at-hand.a" -o "$work/boundary-address"
+    build_objects "$work/address" "$address" $BLOCKS
+    $address "$work/address"/*.o "$work/at-hand.a" -o "$work/boundary-address"
     "$work/boundary-address" || fail "boundary with the address sanitizer"
     say "both can fail"
     first="$CHECKED --exit-on-first-error=yes"
-    $blocks spoil.c spoil_turn.c "$work/at-hand.a" $(wraps) -o "$work/spoiled-blocks"
+    $blocks "$work/blocks"/*.o spoil.c spoil_turn.c "$work/at-hand.a" $(wraps) -o "$work/spoiled-blocks"
     must_fail "an octet written behind a reply" "Invalid write" env SPOIL=9 $first "$work/spoiled-blocks"
     must_fail "an octet written before a reply" "Invalid write" env SPOIL=10 $first "$work/spoiled-blocks"
     must_fail "an octet read behind a command" "Invalid read" env SPOIL=12 $first "$work/spoiled-blocks"
     must_fail "an octet read behind a trace" "Invalid read" env SPOIL=19 $first "$work/spoiled-blocks"
     must_fail "an octet read behind an old record" "Invalid read" env SPOIL=54 $first "$work/spoiled-blocks"
-    $blocks spoil.c spoil_turn.c $UNDEFINED -fsanitize=address "$work/at-hand.a" $(wraps) -o "$work/spoiled-address"
+    $address "$work/address"/*.o spoil.c spoil_turn.c "$work/at-hand.a" $(wraps) -o "$work/spoiled-address"
     must_fail "an octet written behind a reply, by the sanitizer" "heap-buffer-overflow" env SPOIL=9 "$work/spoiled-address"
 }
 
@@ -99,13 +112,16 @@ wraps() {
 
 test_that_tests_fail() {
     say "the tests can fail"
-    $HAND -static -DWRONG_EXPECTATION $SOURCES $HAND_LIB -o "$work/wrong"
+    build_objects "$work/objects" "$HAND" $SOURCES
+    cp -r "$work/objects" "$work/wrong-objects"
+    $HAND -DWRONG_EXPECTATION -c boundary.c -o "$work/wrong-objects/boundary.o"
+    $HAND -static "$work/wrong-objects"/*.o $HAND_LIB -o "$work/wrong"
     must_fail "a wrong expectation" FAILED hand "$work/wrong" stop
-    $HAND -static $SOURCES spoil.c spoil_turn.c $HAND_LIB $(wraps) -o "$work/spoiled"
+    $HAND -static "$work/objects"/*.o spoil.c spoil_turn.c $HAND_LIB $(wraps) -o "$work/spoiled"
     export SPOIL=0
     hand "$work/spoiled" stop >"$work/out" || fail "unspoiled, yet fails"
     number=0
-    while [ "$number" -lt 54 ]; do
+    while [ "$number" -lt 66 ]; do
         number=$((number + 1))
         SPOIL=$number
         must_fail "spoil $number" FAILED hand "$work/spoiled" stop
@@ -113,13 +129,25 @@ test_that_tests_fail() {
     unset SPOIL
 }
 
-# wrong_words NAME HEADER EDIT: the tests notice a header with this edit.
+# users HEADER: the sources that name something it defines, or that have the words.
+users() {
+    sed -n -e 's/^#define \(T24_[A-Z0-9_]*\).*/\1/p' -e 's/^static inline .*[ *]\(t24_[a-z0-9_]*\)(.*/\1/p' \
+        "$dist/include/$1" >"$work/names"
+    echo type24_words.h >>"$work/names"
+    grep -lwFf "$work/names" $SOURCES
+}
+
+# wrong_words NAME HEADER EDIT: the tests notice a header with this edit, for which no more is compiled again than what uses it.
 wrong_words() {
-    rm -rf "$work/wrong-include"
+    rm -rf "$work/wrong-include" "$work/wrong-objects"
     cp -r "$dist/include" "$work/wrong-include"
+    cp -r "$work/objects" "$work/wrong-objects"
     sed "$3" "$dist/include/$2" >"$work/wrong-include/$2"
     ! cmp -s "$dist/include/$2" "$work/wrong-include/$2" || fail "no edit: $1"
-    $HAND_CC -std=c99 -static -I"$work/wrong-include" $SOURCES $HAND_LIB -o "$work/wrong"
+    for source in $(users "$2"); do
+        $HAND_CC -std=c99 -I"$work/wrong-include" -c "$source" -o "$work/wrong-objects/${source%.c}.o"
+    done
+    $HAND_CC -static "$work/wrong-objects"/*.o $HAND_LIB -o "$work/wrong"
     must_fail "$1" FAILED hand "$work/wrong" stop
 }
 
@@ -138,9 +166,9 @@ test_that_words_fail() {
     wrong_words "an identity told in a command cut before it" type24_pdu_words.h \
         's/t24_field(&pdu, T24_COMMAND_AT_CONTROL, 1)/pdu.at[T24_COMMAND_AT_CONTROL]/'
     wrong_words "a field told at the next octet" type24_field_words.h \
-        's/{ T24_CONNECT, T24_CONNECT_AT_COM_TIME,/{ T24_CONNECT, T24_CONNECT_AT_PROFILE,/'
+        's/T24_CONNECT, T24_CONNECT_AT_COM_TIME,/T24_CONNECT, T24_CONNECT_AT_PROFILE,/'
     wrong_words "a check that is ALM_RD's told of ALM_CLR" type24_field_words.h \
-        's/{ T24_ALM_RD, T24_COMMAND_AT_CODE/{ T24_ALM_CLR, T24_COMMAND_AT_CODE/'
+        's/T24_ALM_RD, T24_COMMAND_AT_CODE/T24_ALM_CLR, T24_COMMAND_AT_CODE/'
     wrong_words "the address of another parameter" type24_field_words.h \
         's/t24_key(sheet + at) == number/t24_key(sheet + at) <= number/'
     wrong_words "an address that the command has not" type24_field_words.h \
@@ -152,11 +180,11 @@ test_that_words_fail() {
     wrong_words "a next SN that is not RSN" type24_watchdog.h \
         's/rsn = rwdt & 0xF0u/rsn = 0u/'
     wrong_words "a lost cycle by SN not told" type24_watchdog.h \
-        's/|| t24_sn(command) != t24_expected_sn(state)/|| 0/'
+        's/|| t24_sn(sheet, command) != t24_expected_sn(state)/|| 0/'
     wrong_words "a lost cycle told though MN is not known" type24_watchdog.h \
         's/ && state\[T24_AT_MN_KNOWN\] != 0//'
     wrong_words "the SN that was seen told as expected" type24_watchdog_words.h \
-        's/"; SN ", t24_expected_sn(state)/"; SN ", t24_sn(command)/'
+        's/"; SN ", t24_expected_sn(state)/"; SN ", t24_sn(sheet, command)/'
     wrong_words "a refused memory without its length" type24_words.h \
         's/t24_put_decimal(text, memory_len);/t24_put_decimal(text, wanted);/'
 }
@@ -174,11 +202,11 @@ test_that_tolerance_fails() {
     wrong_words "a row counted from 0" type24_watchdog_words.h \
         's/t24_put_decimal(text, count + 1)/t24_put_decimal(text, count)/'
     wrong_words "a row told of a cycle that is kept" type24_watchdog_words.h \
-        's/if (t24_watchdog_fails(state, command))/if (t24_watchdog_asks(state))/'
+        's/if (t24_watchdog_fails(typed, state, command))/if (t24_watchdog_asks(state))/'
     wrong_words "a tolerated command told as accepted" type24_words.h \
         's/if (alarm == T24_ALARM_NONE \&\& tolerated)/if (0)/'
     wrong_words "bit 1 of the other octet" type24_reply.h \
-        's/reply\[T24_REPLY_AT_STATUS\] & T24_STATUS_TOLERATED/reply[T24_REPLY_AT_STATUS + 1] \& T24_STATUS_TOLERATED/'
+        's/reply\[t24_status_at(sheet)\] & T24_STATUS_TOLERATED/reply[t24_status_at(sheet) + 1] \& T24_STATUS_TOLERATED/'
     wrong_words "four lost cycles told as allowed" type24_range_words.h \
         's/value > T24_TOLERANCE_MAX/value > T24_TOLERANCE_MAX + 1/'
     wrong_words "a record behind the tolerance told as one behind an ID item" type24_sheet_words.h \
@@ -192,7 +220,33 @@ test_that_tolerance_fails() {
     wrong_words "a new length not asked of t24_turn" type24_state_words.h \
         's/ && state_len != T24_STATE_LEN)/ \&\& state_len < T24_STATE_LEN)/'
     wrong_words "a header of another release" type24_release.h \
-        's/T24_RELEASE 2 /T24_RELEASE 3 /'
+        's/T24_RELEASE 3 /T24_RELEASE 4 /'
+}
+
+# Those of request 7: an octet of one type read where the other has it.
+test_that_short_fails() {
+    wrong_words "a short reply's alarm read in its status" type24_reply.h \
+        's/return reply\[T24_SHORT_REPLY_AT_ALARM\];/return reply[3] \& 0x0Fu;/'
+    wrong_words "an identity told of a short reply" type24_reply.h \
+        's/        return 0;/        return reply[2] >> 6;/'
+    wrong_words "a short command's WDT in octet 1" type24_short.h \
+        's/? T24_SHORT_COMMAND_AT_WDT : /? 1 : /'
+    wrong_words "a short reply's RWDT in octet 1" type24_short.h \
+        's/? T24_SHORT_REPLY_AT_RWDT : /? 1 : /'
+    wrong_words "a type read behind a sheet's first octet" type24_short.h \
+        's/sheet\[0\] == T24_RECORD_SHORT_LINK/*(volatile const uint8_t *)(sheet + 1) < 256 \&\& sheet[0] == 5/'
+    wrong_words "MEM_RD told as a command of the short type" type24_pdu_words.h \
+        's/if (t24_is_mem(code) && t24_is_short(sheet))/if (0)/'
+    wrong_words "a size of two octets in the short type" type24_pdu_words.h \
+        's/t24_is_short(sheet) ? 1 : 2/2/'
+    wrong_words "a type asked of a sheet that is not lent" type24_pdu_words.h \
+        's/return sheet_len > 0 ? sheet : none;/(void)none; return sheet;/'
+    wrong_words "a profile checked in the short type" type24_field_words.h \
+        's/{ T24_IN_ENHANCED, T24_CONNECT, T24_CONNECT_AT_PROFILE/{ T24_IN_BOTH, T24_CONNECT, T24_CONNECT_AT_PROFILE/'
+    wrong_words "data of a short reply told at 8" type24_octet_words.h \
+        's/octet < t24_prm_data_at(sheet)/octet < T24_PRM_AT_DATA/'
+    wrong_words "an L of the enhanced type told as the short type's" type24_range_words.h \
+        's/value != T24_L16/value > T24_L32/'
 }
 
 # Of the product, and of the archive for the processor at hand; and a promise that is not kept must be noticed.
@@ -225,3 +279,4 @@ test_linking_page() {
 . "$kit/test/explain-steps.sh"
 . "$kit/test/explain-refused-steps.sh"
 . "$kit/test/explain-tolerated-steps.sh"
+. "$kit/test/explain-short-steps.sh"

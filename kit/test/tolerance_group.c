@@ -7,30 +7,6 @@
 
 enum { PLACE = 32 }; /* where the record stands in sheet P */
 
-/* What every call tells of a sheet; the other buffers fit, so that only the
- * sheet can be the reason. */
-static void refused(const char *name, const struct built *sheet,
-                    unsigned number, size_t place)
-{
-    const uint64_t answer = number + ((uint64_t)place << 32);
-
-    label(name, (long)number);
-    give(SHEET, sheet->octets, sheet->len);
-    give(STATE, state_a, sizeof state_a);
-    give(MEMORY, memory_p, sizeof memory_p);
-    give_noise(COMMAND, 16);
-    give_noise(REPLY, 16);
-    give(TRACE, NULL, 0);
-    give(OLD, old_a, sizeof old_a);
-    expect(ASK_SHEET, answer);
-    expect(ASK_LENGTHS, 0);
-    expect(ASK_RESET, answer);
-    expect(ASK_ENABLE, answer);
-    expect(ASK_EXCHANGE, answer);
-    expect(ASK_REPLAY, answer);
-    expect(ASK_TURN, answer);
-}
-
 /* A valid one; the lengths are those without the record. */
 static void taken(const char *name, const struct built *sheet, uint64_t lengths)
 {
@@ -59,7 +35,7 @@ void tolerance_range(void)
             if (count <= 3)
                 taken("in range", &sheet, all_l[i] + eight);
             else if (i == 1 || count == 4 || count == 255)
-                refused("out of range", &sheet, 14, PLACE);
+                sheet_refused("out of range", &sheet, 14, PLACE);
         }
     sheet.len = 0;
     add_link(&sheet, 8);
@@ -79,10 +55,10 @@ static void behind(unsigned kind, unsigned number)
 
     build_tolerant(&sheet, 16, 1);
     sheet.octets[sheet.len - 1] = (uint8_t)kind;
-    refused("a kind behind it, cut", &sheet, number, PLACE + 2);
+    sheet_refused("a kind behind it, cut", &sheet, number, PLACE + 2);
     for (; sheet.len < 70; sheet.len++)
         sheet.octets[sheet.len] = 0;
-    refused("a kind behind it", &sheet, number, PLACE + 2);
+    sheet_refused("a kind behind it", &sheet, number, PLACE + 2);
 }
 
 /* Behind the link record alone and behind each other kind it stands well; what
@@ -95,33 +71,33 @@ void tolerance_places(void)
     add_tolerance(&sheet, 1);
     add_link(&sheet, 16);
     add_end(&sheet);
-    refused("before the link record", &sheet, 13, 0);
+    sheet_refused("before the link record", &sheet, 13, 0);
     behind(T24_RECORD_LINK, 13);
     behind(T24_RECORD_REGION, 13);
     behind(T24_RECORD_PARAMETER, 13);
     behind(T24_RECORD_ID, 13);
     behind(T24_RECORD_TOLERANCE, 13);
-    behind(5, 12);
+    behind(T24_RECORD_SHORT_LINK, 13);
     behind(7, 12);
     build_tolerant(&sheet, 16, 1);
     sheet.octets[sheet.len - 1] = T24_RECORD_TOLERANCE;
     add_octet(&sheet, 9);
-    refused("a second one, out of range too", &sheet, 13, PLACE + 2);
+    sheet_refused("a second one, out of range too", &sheet, 13, PLACE + 2);
     build_tolerant(&sheet, 16, 0);
     sheet.len--;
     add_tolerance(&sheet, 0);
     add_end(&sheet);
-    refused("twice the same", &sheet, 13, PLACE + 2);
+    sheet_refused("twice the same", &sheet, 13, PLACE + 2);
     build_p(&sheet, 16);
     add_tolerance(&sheet, 1);
-    refused("behind the end record", &sheet, 13, 33);
+    sheet_refused("behind the end record", &sheet, 13, 33);
     sheet.len = 0;
     add_link(&sheet, 16);
     add_region(&sheet, 0x1000, 4, 3);
     add_tolerance(&sheet, 1);
     add_parameter(&sheet, 7, 0x1000, 2);
     add_end(&sheet);
-    refused("between region and parameter", &sheet, 13, 16);
+    sheet_refused("between region and parameter", &sheet, 13, 16);
 }
 
 /* Cut at each length; a record that is not whole has no range. */
@@ -131,21 +107,21 @@ void tolerance_cut(void)
 
     build_tolerant(&sheet, 16, 4);
     sheet.len = PLACE + 1;
-    refused("its count is missing", &sheet, 11, PLACE);
+    sheet_refused("its count is missing", &sheet, 11, PLACE);
     build_tolerant(&sheet, 16, 3);
     sheet.len = PLACE + 2;
-    refused("no end record", &sheet, 11, PLACE + 2);
+    sheet_refused("no end record", &sheet, 11, PLACE + 2);
     sheet.len = 0;
     add_octet(&sheet, T24_RECORD_TOLERANCE);
-    refused("cut, and before the link record", &sheet, 13, 0);
+    sheet_refused("cut, and before the link record", &sheet, 13, 0);
     sheet.len = 0;
     add_link(&sheet, 16);
     add_octet(&sheet, T24_RECORD_TOLERANCE);
-    refused("cut behind the link record", &sheet, 11, 4);
+    sheet_refused("cut behind the link record", &sheet, 11, 4);
     build_tolerant(&sheet, 16, 3);
     add_octet(&sheet, 0);
-    refused("an octet behind the end", &sheet, 13, PLACE + 3);
+    sheet_refused("an octet behind the end", &sheet, 13, PLACE + 3);
     while (sheet.len <= T24_SHEET_MAX)
         add_octet(&sheet, T24_RECORD_TOLERANCE);
-    refused("a sheet too long", &sheet, 11, 0);
+    sheet_refused("a sheet too long", &sheet, 11, 0);
 }

@@ -161,10 +161,12 @@ static void one_wdt(unsigned tolerance, unsigned count, unsigned wdt)
 
     state[10] = (uint8_t)count;
     give_slave(16, tolerance, state);
-    check(t24_watchdog_fails(state, command) == !right, "t24_watchdog_fails");
+    check(t24_watchdog_fails(sheet_p, state, command) == !right,
+          "t24_watchdog_fails");
     check(t24_watchdog_tolerates(given(SHEET), given_len(SHEET), state)
           == (count < tolerance), "t24_watchdog_tolerates");
-    check(t24_reply_tolerated(reply) == (kept && !right), "by the reply");
+    check(t24_reply_tolerated(sheet_p, reply) == (kept && !right),
+          "by the reply");
     state[6] = told;
     state[7] = 0;
     state[10] = right ? 0 : (uint8_t)(count + 1);

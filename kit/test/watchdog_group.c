@@ -88,7 +88,7 @@ void watchdog_every_wdt(void)
             state[7] = (uint8_t)rsn;
             right = wdt == 16 * rsn + next[state[6]];
             start(state, wdt % 2 ? T24_DISCONNECT : T24_NOP, wdt);
-            check(t24_watchdog_fails(state, given(COMMAND)) == !right,
+            check(t24_watchdog_fails(sheet_p, state, given(COMMAND)) == !right,
                   "t24_watchdog_fails");
             if (!right) {
                 lost();
@@ -113,11 +113,12 @@ void watchdog_not_asked(void)
     for (wdt = 0; wdt < 256; wdt++) {
         label("MN not known, WDT", (long)wdt);
         start(entered, T24_NOP, wdt);
-        check(!t24_watchdog_fails(entered, given(COMMAND)), "MN not known");
+        check(!t24_watchdog_fails(sheet_p, entered, given(COMMAND)),
+              "MN not known");
         taken(wdt & 15u, 1);
         label("link 2, WDT", (long)wdt);
         start(async, T24_NOP, wdt);
-        check(!t24_watchdog_fails(async, given(COMMAND)), "link 2");
+        check(!t24_watchdog_fails(sheet_p, async, given(COMMAND)), "link 2");
         expect_on_side(ASK_EXCHANGE, T24_DONE, 0);
         label("SYNC_SET, WDT", (long)wdt);
         start(async, T24_SYNC_SET, wdt);
@@ -126,7 +127,7 @@ void watchdog_not_asked(void)
         expect_on_side(ASK_EXCHANGE, T24_DONE, 0);
         label("link 1, WDT", (long)wdt);
         start(apart, T24_NOP, wdt);
-        check(!t24_watchdog_fails(apart, given(COMMAND)), "link 1");
+        check(!t24_watchdog_fails(sheet_p, apart, given(COMMAND)), "link 1");
         expect_on_side(ASK_EXCHANGE, T24_DONE, 1);
     }
 }

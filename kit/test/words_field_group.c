@@ -73,8 +73,9 @@ void words_fields(void)
 
     for (i = 0; i < ROWS; i++) {
         label("row", (long)i);
-        check(strcmp(t24_field_words(rows[i].code, rows[i].alarm, rows[i].place),
-                     rows[i].field) == 0, "words of a field");
+        check(strcmp(t24_field_words(sheet_p, rows[i].code, rows[i].alarm,
+                                     rows[i].place), rows[i].field) == 0,
+              "words of a field");
         command[0] = rows[i].code;
         same(refused(sheet_p, sizeof sheet_p, 2, place(COMMAND, command, 8, 1),
                      8, rows[i].alarm, rows[i].place), rows[i].words);
@@ -82,6 +83,9 @@ void words_fields(void)
                                         rows[i].place, NULL, 0)
               == strlen(rows[i].words), "no room at all");
     }
+    label("nothing lent", 0);
+    same(refused(NULL, 0, 2, NULL, 0, 9, 4),
+         "alarm 9 at octet 4, no field of this command");
 }
 
 /* Whether a row above has this code, alarm 9 and this place. */
@@ -100,7 +104,7 @@ static int has_row(unsigned code, uint32_t place)
 static void any(const uint8_t *command, unsigned alarm, uint32_t octet)
 {
     const unsigned code = command[0];
-    const char *field = t24_field_words(code, alarm, octet);
+    const char *field = t24_field_words(sheet_p, code, alarm, octet);
     const size_t told = refused(sheet_p, sizeof sheet_p, alarm % 5, command, 1,
                                 alarm, octet);
 
@@ -135,9 +139,10 @@ void words_fields_of_any(void)
     }
     for (i = 0; i < sizeof odd / sizeof odd[0]; i++) {
         label("no code and no alarm", (long)i);
-        check(strcmp(t24_field_words(odd[i], 9, 4), T24_NO_FIELD) == 0, "code");
-        check(strcmp(t24_field_words(0x0E, odd[i], 4), T24_NO_FIELD) == 0,
-              "alarm");
+        check(strcmp(t24_field_words(sheet_p, odd[i], 9, 4), T24_NO_FIELD) == 0,
+              "code");
+        check(strcmp(t24_field_words(sheet_p, 0x0E, odd[i], 4), T24_NO_FIELD)
+              == 0, "alarm");
     }
 }
 
@@ -192,7 +197,4 @@ void words_refused_commands(void)
     lacking("alarm 10: octet 4294967295 of the span, at address 1FFFFFFFB, lacks "
             "the right to be written in step", sheet_p, whole, 3, top,
             sizeof top, 0xFFFFFFFFu);
-    label("nothing lent", 0);
-    same(refused(NULL, 0, 2, NULL, 0, 9, 4),
-         "alarm 9 at octet 4, no field of this command");
 }

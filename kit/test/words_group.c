@@ -11,6 +11,7 @@
 #define LATE " after the tolerance record: that comes behind regions, parameters " \
              "and ID items"
 #define LINK "01 10 30 00 "
+#define SHORT_LINK "05 10 30 00 "
 #define REGION "02 00 10 00 00 04 00 00 00 03 " /* 4 octets at 1000 */
 #define PARAMETER "03 07 00 00 10 00 00 04 "    /* number 7, all of them */
 #define ZEROS_8 "00 00 00 00 00 00 00 00 "
@@ -27,14 +28,34 @@ static const struct {
     { LINK REGION PARAMETER "03 08 00 00 10 00 00",
       "11 at octet 22: 2nd parameter: 1 of its 8 octets is missing" },
     { LINK "04", "11 at octet 4: 1st ID item: 34 of its 35 octets are missing" },
-    { LINK "05", "12 at octet 4: kind 05 is unknown: a record begins with 00 to 04 "
-      "or 06" },
-    { "FF", "12 at octet 0: kind FF is unknown: a record begins with 00 to 04 or "
-      "06" },
-    { LINK "07 01 00", "12 at octet 4: kind 07 is unknown: a record begins with 00 "
-      "to 04 or 06" },
-    { "02 00", "13 at octet 0: the sheet begins with 02, not with a link record, 01" },
-    { "00", "13 at octet 0: the sheet begins with 00, not with a link record, 01" },
+    { LINK "05", "13 at octet 4: a short link record after a link record: one of "
+      "them comes first and once" },
+    { LINK "06 01 " SHORT_LINK "00", "13 at octet 6: a short link record after a "
+      "link record: one of them comes first and once" },
+    { SHORT_LINK LINK "00", "13 at octet 4: a link record after a short link record: "
+      "one of them comes first and once" },
+    { SHORT_LINK SHORT_LINK, "13 at octet 4: a second link record: it comes first "
+      "and once" },
+    { "05 10 30", "11 at octet 0: short link record: 1 of its 4 octets is missing" },
+    { "05 20 30 00 00", "14 at octet 0: short link record, L 32: only 16" },
+    { "05 00 30 00 00", "14 at octet 0: short link record, L 0: only 16" },
+    { SHORT_LINK, "11 at octet 4: no end record" },
+    { SHORT_LINK "08", "12 at octet 4: kind 08 is unknown: a record begins with 00 "
+      "to 06" },
+    { SHORT_LINK ITEM REGION, "13 at octet 39: region 1 after an ID item: "
+      "regions come first, then parameters, then ID items" },
+    { SHORT_LINK "00", "valid, short type, L 16, 0 octets of memory, 0 regions, "
+      "0 parameters, 0 ID items" },
+    { SHORT_LINK REGION PARAMETER ITEM "06 02 00", "valid, short type, L 16, 4 "
+      "octets of memory, 1 region, 1 parameter, 1 ID item, tolerates 2 lost cycles "
+      "in a row" },
+    { "FF", "12 at octet 0: kind FF is unknown: a record begins with 00 to 06" },
+    { LINK "07 01 00",
+      "12 at octet 4: kind 07 is unknown: a record begins with 00 to 06" },
+    { "02 00", "13 at octet 0: the sheet begins with 02, not with a link record, 01 "
+      "or 05" },
+    { "00", "13 at octet 0: the sheet begins with 00, not with a link record, 01 or "
+      "05" },
     { LINK LINK, "13 at octet 4: a second link record: it comes first and once" },
     { LINK REGION PARAMETER REGION "00",
       "13 at octet 22: region 2 after a parameter: "
@@ -45,7 +66,8 @@ static const struct {
     { LINK REGION ITEM "03",
       "13 at octet 49: 1st parameter after an ID item: "
       "regions come first, then parameters, then ID items" },
-    { "06 01", "13 at octet 0: the sheet begins with 06, not with a link record, 01" },
+    { "06 01", "13 at octet 0: the sheet begins with 06, not with a link record, 01 "
+      "or 05" },
     { LINK "06 01 06 01 00",
       "13 at octet 6: a second tolerance record: it comes at most once" },
     { LINK "06 00 06",
@@ -157,19 +179,6 @@ static void said(const struct built *built, uint64_t answer, const char *words)
         check(strcmp(text, words) == 0, "words of a fault");
         for (room = 0; room < strlen(words) + 3; room++)
             in_room(sheet, built->len, answer, words, room, back);
-    }
-}
-
-/* The octets of a line of hex. */
-static void read_hex(struct built *built, const char *hex)
-{
-    unsigned octet;
-    int used;
-
-    built->len = 0;
-    while (sscanf(hex, "%2x%n", &octet, &used) == 1) {
-        add_octet(built, octet);
-        hex += used;
     }
 }
 

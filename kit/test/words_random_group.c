@@ -24,7 +24,10 @@ static void nearly_good(struct built *sheet)
     uint32_t count, i;
 
     sheet->len = 0;
-    add_link(sheet, all_l[below(5)]);
+    if (below(3) == 0)
+        add_short_link(sheet, below(8) == 0 ? all_l[below(5)] : 16);
+    else
+        add_link(sheet, all_l[below(5)]);
     count = below(4) == 0 ? 31 + below(3) : below(4);
     for (i = 0; i < count; i++)
         add_region(sheet, 0x1000u + 16u * i, 16u - below(2), below(8));
@@ -41,7 +44,7 @@ static void nearly_good(struct built *sheet)
 
 static void random_sheet(struct built *sheet)
 {
-    static const uint8_t likely[] = { 0, 1, 2, 3, 4, 5, 6, 8, 57, 255 };
+    static const uint8_t likely[] = { 0, 1, 2, 3, 4, 5, 6, 7, 57, 255 };
     uint32_t changes = below(3);
 
     nearly_good(sheet);

@@ -11,8 +11,10 @@ static void status(unsigned low, unsigned high, const char *words)
     const uint8_t octets[4] = { 0, 0, (uint8_t)low, (uint8_t)high };
 
     label("status", (long)(low + 256 * high));
-    same(t24_status_words(place(REPLY, octets, 4, 1), text, sizeof text), words);
-    check(t24_status_words(octets, NULL, 0) == strlen(words), "no room at all");
+    same(t24_status_words(sheet_p, place(REPLY, octets, 4, 1), text,
+                          sizeof text), words);
+    check(t24_status_words(sheet_p, octets, NULL, 0) == strlen(words),
+          "no room at all");
 }
 
 /* Bit 1: nothing was executed, whatever else the status has. */
@@ -107,11 +109,13 @@ void words_octets(void)
             next = 64;
         for (octet = fields[i].octet; octet < next; octet++) {
             label("octet", (long)(256 * fields[i].code + octet));
-            check(strcmp(t24_octet_words(fields[i].code, octet),
+            check(strcmp(t24_octet_words(sheet_p, fields[i].code, octet),
                          fields[i].words) == 0, "words of an octet");
-            check(strcmp(t24_reply_octet_words(fields[i].code, octet, 1),
-                         fields[i].words) == 0, "executed");
-            check(strcmp(t24_reply_octet_words(fields[i].code, octet, 0),
+            check(strcmp(t24_reply_octet_words(sheet_p, fields[i].code, octet,
+                                               1), fields[i].words) == 0,
+                  "executed");
+            check(strcmp(t24_reply_octet_words(sheet_p, fields[i].code, octet,
+                                               0),
                          octet < 4 || octet > 63 ? fields[i].words : zero) == 0,
                   "not executed");
         }
@@ -121,7 +125,7 @@ void words_octets(void)
 static void command(const char *words, size_t len, const uint8_t *octets)
 {
     label(words, (long)len);
-    same(t24_command_words(place(COMMAND, octets, len, 1), len, text,
+    same(t24_command_words(sheet_p, place(COMMAND, octets, len, 1), len, text,
                            sizeof text), words);
 }
 

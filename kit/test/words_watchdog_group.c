@@ -13,8 +13,8 @@ static void said(const uint8_t *before, unsigned wdt, const char *words)
     const uint8_t *kept = place(STATE, before, T24_STATE_LEN, 1);
 
     label("WDT", (long)wdt);
-    same(t24_watchdog_words(kept, lent, text, sizeof text), words);
-    check(t24_watchdog_words(kept, lent, NULL, 0) == strlen(words),
+    same(t24_watchdog_words(sheet_p, kept, lent, text, sizeof text), words);
+    check(t24_watchdog_words(sheet_p, kept, lent, NULL, 0) == strlen(words),
           "no room at all");
 }
 
@@ -56,6 +56,7 @@ static void lost(unsigned tolerance, unsigned count, unsigned wdt,
 void words_lost(void)
 {
     static const uint8_t async[] = { 0x12, 2, 16, 0, 1, 0, 0, 0, 0, 0, 0 };
+    static const uint8_t known[] = { 0x12, 3, 16, 0, 1, 1, 3, 5, 0, 0, 0 };
     static const uint8_t command[8] = { 0x1D, 0x53 };
 
     lost(0, 0, 0x53, "MN 4 expected, 3 seen; SN 5 expected, 5 seen");
@@ -75,6 +76,9 @@ void words_lost(void)
     label("out of step", 0);
     same(t24_lost_words(NULL, 0, async, command, text, sizeof text),
          "not asked: the link is not 3");
+    label("no sheet", 0);
+    same(t24_lost_words(NULL, 0, known, command, text, sizeof text),
+         "MN 4 expected, 3 seen; SN 5 expected, 5 seen");
 }
 
 static void tolerates(const struct built *sheet, size_t len, unsigned most)
@@ -109,7 +113,7 @@ void words_tolerance(void)
     memset(sheet.octets + sheet.len - 32, 6, 32);
     add_end(&sheet);
     tolerates(&sheet, sheet.len, 0);
-    sheet.octets[4] = 5; /* an unknown kind before anything else */
+    sheet.octets[4] = 7; /* an unknown kind before anything else */
     tolerates(&sheet, sheet.len, 0);
 }
 
@@ -117,7 +121,7 @@ void words_tolerance(void)
 void words_release(void)
 {
     same(t24_release_words(text, sizeof text),
-         "archive and header are of release 2");
+         "archive and header are of release 3");
     check(t24_release_words(NULL, 0)
-          == strlen("archive and header are of release 2"), "no room at all");
+          == strlen("archive and header are of release 3"), "no room at all");
 }

@@ -102,4 +102,35 @@ memory: 0 of 8 octets changed" "" "$replayer" tolerant.bin in-step.bin memory.bi
 all agree: 15 records
 after:  link 2 AsyncConnected, command latch 0, communication latch 12
 memory: 4 of 8 octets changed" "" "$replayer" sheet.bin ten.bin memory.bin trace.bin
+    test_short
+}
+
+# The same drive with the short type: parameter 7 is set, and an alarm of the trace stands where the enhanced type has it.
+test_short() {
+    {
+        echo 22 02000000070002B40100000000000004 02000400070002B40100000000000000
+        echo 22 1D000000001101000010000000000000 1D080500000000000000000000000000
+    } >"$work/room/lines"
+    input=$work/room/lines
+    expect "a trace of the short type" 0 "" "" "$work/dist/bin/t24-hex" to short-agrees.bin
+    echo 22 1D000000001101000010000000000000 1D000508000000000000000000000000 >"$work/room/lines"
+    expect "a trace with an alarm in its status" 0 "" "" "$work/dist/bin/t24-hex" to short-differs.bin
+    input=/dev/null
+    expect "replayer on a short trace that agrees" 0 "all agree: 2 records
+after:  link 2 AsyncConnected, command latch 8, communication latch 0
+memory: 2 of 8 octets changed" "" "$replayer" short-sheet.bin state.bin memory.bin short-agrees.bin
+    expect "replayer on a short trace that differs" 1 "record 0, at octet 0 of the trace, differs at octet 1 of its reply
+command: 1D unknown code; MN 0, SN 0
+before:  link 2 AsyncConnected, command latch 0, communication latch 0
+ours is refused: alarm 8, unknown command code
+ours:  1D080500000000000000000000000000
+trace: 1D000508000000000000000000000000
+         ^^  ^^
+octet 1: the command's alarm
+ours:  alarm 8, unknown command code; a latch is set
+trace: accepted; a latch is set; bits 8 to 11 are not 0" "" "$replayer" short-sheet.bin state.bin memory.bin short-differs.bin
+    expect "words for a short sheet of another L" 2 "" "refused: 14, at octet 0 of the sheet
+t24-explain: short-l.bin: 14 at octet 0: short link record, L 32: only 16" "$replayer" short-l.bin state.bin memory.bin trace.bin
+    expect "t24-explain on a short sheet" 0 "sheet: valid, short type, L 16, 8 octets of memory, 2 regions, 1 parameter, 0 ID items" "" \
+        "$explain" sheet short-sheet.bin
 }

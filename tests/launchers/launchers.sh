@@ -78,6 +78,14 @@ test_bench_hex() {
 00100400000000000000000000000000
 00200600000000000000000000000000
 000005C0000000000000000000000000" "" "$bench" --hex tolerant.bin
+    # The short type: PRM_RD of parameter 7, MEM_RD, which it has not, and a NOP, with WDT 01, 12 and 23 last in each.
+    printf '0e00000030020177%016d\n01000000070002%016d01\n1d%028d12\n00%028d23\n' 0 0 0 0 >"$input"
+    expect "bench --hex with a short sheet" 0 "0E000400300201000000000000000000
+01000400070002000000000000000011
+1D080500000000000000000000000022
+00000500000000000000000000000033" "" "$bench" --hex short-sheet.bin
+    expect "bench --hex with a short sheet of another L" 2 "SHEET 14 0" "bench: short-l.bin: the sheet is refused" \
+        "$bench" --hex short-l.bin
     printf '%064d\n' 0 >"$input"
     expect "bench --hex with two commands on a line" 2 "" "t24-hex: line 1: 32 octets, not 16" "$bench" --hex sheet.bin
     expect "bench --hex with a refused sheet" 2 "SHEET 11 32" "bench: faulty.bin: the sheet is refused" "$bench" --hex faulty.bin
