@@ -7,10 +7,12 @@ mod failures;
 mod identities;
 mod lacking;
 mod limits;
+mod link_records;
 mod links;
 mod octets;
 mod parameters;
 mod places;
+mod reserves;
 mod sheets;
 mod states;
 mod tolerances;
@@ -34,11 +36,13 @@ pub fn run(rig: &mut Rig) -> Outcome {
     parameters::run(rig)?;
     data::run(rig)?;
     octets::run(rig)?;
+    reserves::run(rig)?;
     places::run(rig)?;
     wrong::run(rig)?;
     lacking::run(rig)?;
     limits::run(rig)?;
     tolerances::run(rig)?;
+    link_records::run(rig)?;
     sheets::run(rig)?;
     failing_traces::run(rig)?;
     traces::run(rig)
