@@ -36,11 +36,11 @@ fn code(random: &mut Random, plan: &Plan, link: u8) -> u8 {
     let usual = if plan.wire.has_memory { 13 } else { 9 };
     match link {
         _ if draw < 3 => random.octet(),
-        _ if draw < 8 => random.pick(&CODES),
+        _ if draw < 13 => random.pick(&CODES),
         DISCONNECTED if draw < 70 => 0x0E,
         DISCONNECTED => random.pick(&[0x00, 0x0F, 0x01, 0x0D, 0x1E]),
-        ASYNC if draw < 12 => 0x0D,
-        ASYNC | SYNC if draw < 14 => 0x0F,
+        ASYNC if draw < 17 => 0x0D,
+        ASYNC | SYNC if draw < 19 => 0x0F,
         _ => random.pick(&USUAL[..usual]),
     }
 }

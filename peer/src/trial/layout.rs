@@ -18,7 +18,7 @@ pub fn random_plan(random: &mut Random) -> Plan {
         tolerance: tolerance(random),
         ..Plan::bare(random.pick(&LENGTHS))
     };
-    if random.chance(25) {
+    if random.chance(30) {
         plan = plan.in_short();
     }
     plan.parameters = parameters(random, &plan);

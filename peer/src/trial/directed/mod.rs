@@ -26,6 +26,7 @@ use super::rig::Rig;
 
 /// All directed trials.
 pub fn run(rig: &mut Rig) -> Outcome {
+    link_records::run(rig)?;
     buffers::run(rig)?;
     states::run(rig)?;
     turns::run(rig)?;
@@ -42,7 +43,6 @@ pub fn run(rig: &mut Rig) -> Outcome {
     lacking::run(rig)?;
     limits::run(rig)?;
     tolerances::run(rig)?;
-    link_records::run(rig)?;
     sheets::run(rig)?;
     failing_traces::run(rig)?;
     traces::run(rig)
