@@ -28,7 +28,9 @@ type Left = (u64, Vec<u8>, Vec<u8>);
 pub fn replayings() -> Vec<Replaying> {
     let (plans, both) = (plans(), plans_of_both_types());
     let usual = [&plans[1], &plans[3]].map(|named| replaying(named, usual_exchanges));
-    let shared = [&both[0], &both[1]].map(|named| replaying(named, shared_exchanges));
+    let shared = both[0]
+        .iter()
+        .map(|named| replaying(named, shared_exchanges));
     usual.into_iter().chain(shared).collect()
 }
 

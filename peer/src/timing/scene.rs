@@ -57,18 +57,20 @@ pub fn plans() -> Vec<NamedPlan> {
     ]
 }
 
-/// Sheets of the short type, each behind the same one of the enhanced type at that L.
-pub fn plans_of_both_types() -> [NamedPlan; 4] {
+/// Sheets of the enhanced type at the short type's L, each with the same one of the short type.
+pub fn plans_of_both_types() -> [[NamedPlan; 2]; 2] {
     let named = |name, plan| NamedPlan { name, plan };
+    let usual = typical(SHORT_LENGTH);
     let full = largest(SHORT_LENGTH, Spans::Last);
     [
-        named("typical sheet, L 16", typical(SHORT_LENGTH)),
-        named(
-            "typical sheet, short type",
-            typical(SHORT_LENGTH).in_short(),
-        ),
-        named("largest sheet, L 16", full.clone()),
-        named("largest sheet, short type", full.in_short()),
+        [
+            named("typical sheet, L 16", usual.clone()),
+            named("typical sheet, short type", usual.in_short()),
+        ],
+        [
+            named("largest sheet, L 16", full.clone()),
+            named("largest sheet, short type", full.in_short()),
+        ],
     ]
 }
 
@@ -183,8 +185,10 @@ pub fn table_scenes() -> Vec<Scene> {
         }
     }
     for link in [2, 3] {
-        for named in &plans_of_both_types() {
-            scenes.extend(shared_exchanges(named, link));
+        for [enhanced, short] in &plans_of_both_types() {
+            let pairs = shared_exchanges(enhanced, link).into_iter();
+            let pairs = pairs.zip(shared_exchanges(short, link));
+            scenes.extend(pairs.flat_map(|(one, other)| [one, other]));
         }
     }
     scenes

@@ -141,8 +141,8 @@ mod tests {
                 let scenes = usual_exchanges(named, link);
                 scenes.iter().for_each(is_accepted_and_can_be_timed);
             }
-            for named in plans_of_both_types() {
-                let scenes = shared_exchanges(&named, link);
+            for named in plans_of_both_types().iter().flatten() {
+                let scenes = shared_exchanges(named, link);
                 scenes.iter().for_each(is_accepted_and_can_be_timed);
             }
         }
@@ -151,12 +151,10 @@ mod tests {
     /// Both types' rows are of the same exchanges: the names differ in the type alone.
     #[test]
     fn exchanges_of_both_types_are_the_same() {
-        let [typical, short_typical, largest, short_largest] = plans_of_both_types();
-        for (one, other) in [(typical, short_typical), (largest, short_largest)] {
-            let scenes = shared_exchanges(&one, 3).into_iter();
-            let pairs: Vec<_> = scenes.zip(shared_exchanges(&other, 3)).collect();
-            assert_eq!(pairs.len(), shared_exchanges(&one, 3).len());
-            for (one, other) in pairs {
+        for pair in plans_of_both_types() {
+            let [enhanced, short] = pair.map(|named| shared_exchanges(&named, 3));
+            assert_eq!(enhanced.len(), short.len());
+            for (one, other) in enhanced.iter().zip(&short) {
                 assert_eq!(one.name.replace("L 16", "short type"), other.name);
                 assert_eq!((one.sheet[0], other.sheet[0]), (1, 5));
                 assert_eq!(one.sheet[1..], other.sheet[1..]);

@@ -131,7 +131,9 @@ fn write_head(formatter: &mut fmt::Formatter) -> fmt::Result {
 
 impl fmt::Display for Typed {
     fn fmt(&self, formatter: &mut fmt::Formatter) -> fmt::Result {
-        write!(formatter, "{}", self.wire.name)?;
+        if !self.wire.name.is_empty() {
+            writeln!(formatter, "{}", self.wire.name.trim_end())?;
+        }
         write_head(formatter)?;
         for (code, name) in codes_of(self.wire) {
             write_row(formatter, name, &self.codes[usize::from(code)])?;
