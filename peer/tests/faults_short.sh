@@ -134,7 +134,7 @@ fault "com_time 0 taken" engine/command.rs "s/require(command\[6\] >= least_com_
 fault "com_time told at 7" engine/command.rs "s/least_com_time, COM_TIME_AT/least_com_time, if $checks_short { 7 } else { COM_TIME_AT }/"
 fault "CONNECT without reserves" engine/command.rs "/^fn connection/,/^}/s/command\[4\] ==/command[if $checks_short { 1 } else { 4 }] ==/"
 fault "a parameter's number without reserves" engine/command.rs "s/number_16(command, 4);/number_16(command, if $checks_short { 1 } else { 4 });/"
-fault "a parameter's size told at 7" engine/command.rs "/^fn parameter/,/^}/s/SIZE_AT/if $checks_short { 7 } else { SIZE_AT }/"
+fault "a short parameter's size told at 7" engine/command.rs "/^fn parameter/,/^}/s/SIZE_AT/if $checks_short { 7 } else { SIZE_AT }/"
 chosen "an ID size of two octets" engine/frame.rs "$(in_short 'id_size: Field { at: 6, octets: 1 }' 'id_size: Field { at: 6, octets: 2 }')"
 fault "an ID size at octet 7" engine/frame.rs "$(in_short 'id_size: Field { at: 6, octets: 1 }' 'id_size: Field { at: 7, octets: 1 }')"
 fault "an ID offset of two octets" engine/command.rs \

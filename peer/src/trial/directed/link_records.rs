@@ -3,9 +3,9 @@
 
 use super::tolerances::{expect_sheet, packed};
 use crate::trial::plan::Plan;
-use crate::trial::probe::{judge_sheet, Outcome};
+use crate::trial::probe::Outcome;
 use crate::trial::rig::Rig;
-use crate::trial::samples::{both_ends, largest, tolerant, Spans};
+use crate::trial::samples::{sheet_p, tolerant};
 use crate::trial::wire::SHORT;
 
 const CUT: u64 = 11;
@@ -26,19 +26,14 @@ pub fn run(rig: &mut Rig) -> Outcome {
         behind(rig, &plan)?;
     }
     rig.origin = "directed: link records that are cut".to_string();
-    cuts(rig)?;
-    rig.origin = "directed: the largest sheet of the short type".to_string();
-    for spans in [Spans::First, Spans::Last, Spans::Crossing] {
-        judge_sheet(rig, &largest(16, spans).in_short().octets())?;
-    }
-    Ok(())
+    cuts(rig)
 }
 
 /// Sheets of the short type: with records of all kinds, with some, and with none.
 fn plans() -> [Plan; 3] {
     [
         tolerant(16, Some(1)).in_short(),
-        both_ends(16).in_short(),
+        sheet_p().in_short(),
         Plan::bare(16).in_short(),
     ]
 }
@@ -56,7 +51,6 @@ fn lengths(rig: &mut Rig, plan: &Plan) -> Outcome {
         expect_sheet(rig, &records, if good { 0 } else { RANGE })?;
         records[0] = vec![SHORT.link_kind, 16, octet, !octet];
         expect_sheet(rig, &records, 0)?;
-        judge_sheet(rig, &records.concat())?;
     }
     Ok(())
 }

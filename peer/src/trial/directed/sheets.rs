@@ -63,6 +63,7 @@ fn every_octet(rig: &mut Rig, sheet: &[u8]) -> Outcome {
 
 fn largest_sheets(rig: &mut Rig) -> Outcome {
     for spans in [Spans::First, Spans::Last, Spans::Crossing] {
+        judge_sheet(rig, &largest(16, spans).in_short().octets())?;
         let sheet = largest(64, spans).octets();
         judge_sheet(rig, &sheet)?;
         for at in 0..sheet.len() {
