@@ -86,7 +86,7 @@ fn an_id_size_has_one_octet() {
     for (code, length) in [(9, 1), (10, 32)] {
         for offset in 0..=255u8 {
             for size in [0, 1, 2, 7, 8, 9, 31, 32, 33, 255] {
-                let fits = size >= 1 && size <= 8 && u16::from(offset) + size <= length;
+                let fits = (1..=8).contains(&size) && u16::from(offset) + size <= length;
                 let expected = if fits { (0, 0) } else { (9, 6) };
                 assert_eq!(told(3, &[code, offset, size as u8]), expected);
             }
