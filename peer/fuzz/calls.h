@@ -19,6 +19,7 @@ static void ask_sheet(void)
     check("lengths", peer_lengths(SHEET(0)), t24_lengths(SHEET(1)));
     mark_call("sheet", peer);
     mark_tolerance(SHEET(0), peer);
+    mark_link(SHEET(0), peer);
 }
 
 static void reset(void)
@@ -74,6 +75,7 @@ static int good_but_for_count(const uint8_t *state)
 static void exchange(const uint8_t *octets, size_t length, size_t reply_length)
 {
     uint8_t old[256], before[STATE_LENGTH] = {0};
+    const struct wire *wire;
     uint64_t peer, t24;
 
     memset(old, 0x5A, sizeof old);
@@ -92,10 +94,16 @@ static void exchange(const uint8_t *octets, size_t length, size_t reply_length)
         mark_bad_count(before);
     if ((uint32_t)peer != 0) /* a place tells of a command in a built reply */
         return;
-    mark_exchange(octets, rig.reply[0].octets, length, before,
+    wire = wire_of(rig.sheet[0].octets);
+    mark_exchange(wire, octets, rig.reply[0].octets, length, before,
                   rig.state[0].octets[1]);
-    mark_count(octets[1], rig.reply[0].octets, before, rig.state[0].octets);
-    mark_place(octets[0], rig.reply[0].octets[3] & 15, peer >> 32);
+    mark_count(wire, octets[wire->wdt], rig.reply[0].octets, before,
+               rig.state[0].octets);
+    mark_place(wire, octets[0], rig.reply[0].octets[wire->alarm] & 15, peer >> 32);
+    if (!is_lost(rig.reply[0].octets, before, rig.state[0].octets[1])
+        && !(rig.reply[0].octets[2] & 2)) /* else it was not looked at */
+        mark_room(rig.sheet[0].octets, octets,
+                  rig.reply[0].octets[wire->alarm] & 15);
     keep_record(octets, rig.reply[0].octets, length);
 }
 
@@ -110,6 +118,9 @@ static uint64_t replay(const uint8_t *trace, size_t length)
     check("replay", peer, t24);
     same("trace", rig.trace);
     mark_call("replay", peer);
+    if (length > 0 && rig.sheet[0].length > 0
+        && rig.sheet[0].octets[0] == SHORT_LINK)
+        mark_call("short_replay", peer);
     return peer;
 }
 

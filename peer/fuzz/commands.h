@@ -84,6 +84,7 @@ static void aim_memory(struct input *in, const struct parts *parts,
 /* Fields that hit the sheet, over the octets already in the command. */
 static void aim(struct input *in, const struct parts *parts, uint8_t *command)
 {
+    const struct wire *wire = wire_of(parts->sheet);
     uint8_t choice = take(in);
 
     switch (command[0]) {
@@ -95,16 +96,17 @@ static void aim(struct input *in, const struct parts *parts, uint8_t *command)
         command[4] = parts->items ? parts->codes[choice % parts->items] : 0;
         command[5] &= 3;
         command[6] &= 15;
-        command[7] = 0;
+        memset(command + 7, 0, wire->fields - 1u);
         break;
     case 0x05:
     case 0x06:
-        command[4] = command[5] = 0;
+        memset(command + 4, 0, wire->fields);
         break;
     case 0x0E:
         command[4] = parts->sheet[2];
         command[5] = (uint8_t)(2 * (choice % 4));
-        command[7] = choice < 0xE0 ? parts->sheet[3] : command[7];
+        if (wire == &ENHANCED && choice < 0xE0)
+            command[7] = parts->sheet[3];
         break;
     case 0x1D:
     case 0x1E:
@@ -148,19 +150,18 @@ static void make_command(struct input *in, const struct parts *parts,
                          const uint8_t *state, size_t state_length,
                          uint8_t control, uint8_t *command)
 {
-    static const uint8_t codes[11] = {0x00, 0x01, 0x02, 0x03, 0x05, 0x06,
-                                      0x0D, 0x0E, 0x0F, 0x1D, 0x1E};
+    const struct wire *wire = wire_of(parts->sheet);
     size_t filled = parts->sheet[1] < 64 ? parts->sheet[1] : 64;
 
     memset(command, 0xEE, 256);
     for (size_t at = 0; at < filled; at++)
         command[at] = take(in);
     if (control & 1)
-        command[0] = codes[command[0] % 11];
+        command[0] = CODES[command[0] % 11];
     if (control & 2)
         aim(in, parts, command);
     if (state_length == STATE_LENGTH)
-        command[1] = aim_wdt(command[1], state, control);
+        command[wire->wdt] = aim_wdt(command[wire->wdt], state, control);
 }
 
 #endif

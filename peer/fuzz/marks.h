@@ -3,6 +3,8 @@
 #ifndef MARKS_H
 #define MARKS_H
 
+#include "wire.h"
+
 #include <stdint.h>
 #include <stdio.h>
 #include <stdlib.h>
@@ -40,15 +42,37 @@ static void mark_tolerance(const uint8_t *sheet, size_t length, uint64_t answer)
         fprintf(stderr, "mark tolerance_%u\n", number);
 }
 
+/* What became of a link record of the short type, or of one beside it. */
+static void mark_link(const uint8_t *sheet, size_t length, uint64_t answer)
+{
+    const unsigned number = answer & 0xFF;
+    const size_t place = (size_t)(answer >> 32);
+
+    if (!telling() || place >= length)
+        return;
+    if (number == 13 && place == 4 && sheet[0] == SHORT_LINK
+        && sheet[4] == ENHANCED_LINK)
+        fprintf(stderr, "mark link_01_behind_05\n");
+    if (sheet[place] != SHORT_LINK)
+        return;
+    if (number == 13 && place == 4)
+        fprintf(stderr, "mark link_05_behind_%02X\n", sheet[0]);
+    else if (number == 13)
+        fprintf(stderr, "mark link_05_behind_others\n");
+    else
+        fprintf(stderr, "mark link_05_%u\n", number);
+}
+
 /* What failed a cycle that was lost or tolerated: MN, SN, or both. */
-static void mark_failed(const char *how, const uint8_t *before, uint8_t wdt)
+static void mark_failed(const struct wire *wire, const char *how,
+                        const uint8_t *before, uint8_t wdt)
 {
     const int follows = (wdt & 15) == ((before[6] + 1) & 15);
     const int right = wdt >> 4 == before[7];
 
-    fprintf(stderr, "mark %s_by_%s\n", how,
+    fprintf(stderr, "mark %s%s_by_%s\n", wire->name, how,
             right ? "MN" : follows ? "SN" : "both");
-    fprintf(stderr, "mark %s_after_%u\n", how, before[10]);
+    fprintf(stderr, "mark %s%s_after_%u\n", wire->name, how, before[10]);
 }
 
 static int is_lost(const uint8_t *reply, const uint8_t *before, uint8_t link)
@@ -58,19 +82,19 @@ static int is_lost(const uint8_t *reply, const uint8_t *before, uint8_t link)
 
 /* A failure by its cause and by those before it in a row, or how many of them
  * an exchange that passed had before it. */
-static void mark_count(uint8_t wdt, const uint8_t *reply, const uint8_t *before,
-                       const uint8_t *after)
+static void mark_count(const struct wire *wire, uint8_t wdt, const uint8_t *reply,
+                       const uint8_t *before, const uint8_t *after)
 {
-    const char *how = (reply[3] & 15) == 0 ? "accepted" : "refused";
+    const char *how = (reply[wire->alarm] & 15) == 0 ? "accepted" : "refused";
 
     if (!telling())
         return;
     if (is_lost(reply, before, after[1]))
-        mark_failed("lost", before, wdt);
+        mark_failed(wire, "lost", before, wdt);
     else if (after[10] > before[10])
-        mark_failed("tolerated", before, wdt);
+        mark_failed(wire, "tolerated", before, wdt);
     else if (before[10] > 0)
-        fprintf(stderr, "mark %s_after_%u\n", how, before[10]);
+        fprintf(stderr, "mark %s%s_after_%u\n", wire->name, how, before[10]);
 }
 
 /* A state that was refused for its count alone: past the sheet's, or with one
@@ -98,40 +122,84 @@ static void mark_turn(const uint8_t *old, size_t old_length, size_t length,
                 old[0] != 0x11 ? "kind" : "field");
 }
 
+/* The code of an exchange that passed, with its alarm; those of the enhanced
+ * type alone are told in the short type too, where they are unknown. */
+static void mark_code(const struct wire *wire, uint8_t code, unsigned alarm)
+{
+    if (memchr(CODES, code, wire->codes) == NULL)
+        fprintf(stderr, "mark %scode_unknown_alarm_%u\n", wire->name, alarm);
+    if (memchr(CODES, code, sizeof CODES) != NULL)
+        fprintf(stderr, "mark %scode_%02X_alarm_%u\n", wire->name, code, alarm);
+}
+
 /* An exchange that was answered: a lost or tolerated cycle, or its code with the
  * alarm, and its L if it was an accepted read; and the identity that came back. */
-static void mark_exchange(const uint8_t *command, const uint8_t *reply,
-                          size_t length, const uint8_t *before, uint8_t link)
+static void mark_exchange(const struct wire *wire, const uint8_t *command,
+                          const uint8_t *reply, size_t length,
+                          const uint8_t *before, uint8_t link)
 {
-    static const uint8_t known[] = {0x00, 0x01, 0x02, 0x03, 0x05, 0x06,
-                                    0x0D, 0x0E, 0x0F, 0x1D, 0x1E};
-    const unsigned alarm = reply[3] & 15;
+    const unsigned alarm = reply[wire->alarm] & 15;
 
     if (!telling())
         return;
-    fprintf(stderr, "mark identity_%u\n", reply[2] >> 6);
+    if (wire == &ENHANCED)
+        fprintf(stderr, "mark identity_%u\n", reply[2] >> 6);
     if (is_lost(reply, before, link))
-        fprintf(stderr, "mark lost_cycle\n");
+        fprintf(stderr, "mark %slost_cycle\n", wire->name);
     else if (reply[2] & 2)
-        fprintf(stderr, "mark tolerated_cycle\n");
-    else if (memchr(known, command[0], sizeof known) == NULL)
-        fprintf(stderr, "mark code_unknown_alarm_%u\n", alarm);
+        fprintf(stderr, "mark %stolerated_cycle\n", wire->name);
     else
-        fprintf(stderr, "mark code_%02X_alarm_%u\n", command[0], alarm);
+        mark_code(wire, command[0], alarm);
     if (reply[2] & 2)
         return;
     if (alarm == 0 && command[0] == 0x1D && link == before[1])
         fprintf(stderr, "mark read_L%u_link_%u\n", (unsigned)length, link);
 }
 
+/* The record of a good sheet that has this kind and key, a parameter's number or
+ * an item's code. */
+static const uint8_t *record_of(const uint8_t *sheet, uint8_t kind, unsigned key)
+{
+    static const uint8_t lengths[7] = {1, 4, 10, 8, 35, 4, 2};
+
+    for (; sheet[0] != 0; sheet += lengths[sheet[0]])
+        if (sheet[0] == kind && sheet[1] == (key & 0xFF)
+            && (kind == 4 || sheet[2] == key >> 8))
+            return sheet;
+    return NULL;
+}
+
+/* A size of the short type that has just room, or one more, which nothing but
+ * the room refuses. */
+static void mark_room(const uint8_t *sheet, const uint8_t *command, unsigned alarm)
+{
+    const uint8_t code = command[0], size = command[6];
+    const uint8_t *record;
+
+    if (!telling() || sheet[0] != SHORT_LINK || code < 0x01 || code > 0x03)
+        return;
+    if (code == 0x03)
+        record = record_of(sheet, 4, command[4]);
+    else
+        record = record_of(sheet, 3, command[4] | command[5] << 8);
+    if (record == NULL)
+        return;
+    if (code == 0x03 ? command[5] + size > record[2] : size != record[7])
+        return;
+    if ((size == 8 && alarm == 0) || (size == 9 && alarm == 9))
+        fprintf(stderr, "mark short_code_%02X_size_%u\n", code, size);
+}
+
 /* Where a refused command was told wrong: alarm 9 by octet, and alarm 10 by
  * whether the first octet lacks the right or a later one. */
-static void mark_place(uint8_t code, unsigned alarm, uint64_t place)
+static void mark_place(const struct wire *wire, uint8_t code, unsigned alarm,
+                       uint64_t place)
 {
     if (telling() && alarm == 9)
-        fprintf(stderr, "mark code_%02X_place_%u\n", code, (unsigned)place);
+        fprintf(stderr, "mark %scode_%02X_place_%u\n", wire->name, code,
+                (unsigned)place);
     if (telling() && alarm == 10)
-        fprintf(stderr, "mark code_%02X_lacking_%s\n", code,
+        fprintf(stderr, "mark %scode_%02X_lacking_%s\n", wire->name, code,
                 place == 0 ? "first" : "later");
 }
 

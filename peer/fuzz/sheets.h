@@ -3,6 +3,8 @@
 #ifndef SHEETS_H
 #define SHEETS_H
 
+#include "wire.h"
+
 #include <stddef.h>
 #include <stdint.h>
 #include <string.h>
@@ -188,6 +190,32 @@ static void make_items(struct input *in, struct parts *parts)
     }
 }
 
+static void put_link(struct parts *parts, uint8_t kind, uint8_t length,
+                     uint16_t names)
+{
+    put(parts, kind, 1);
+    put(parts, length, 1);
+    put(parts, names, 2);
+}
+
+/* Of the enhanced type with any L, or of the short type, seldom with an L that
+ * it does not have; seldom two, each of either type. */
+static void make_link(struct input *in, struct parts *parts)
+{
+    const uint8_t choice = take(in);
+    const uint16_t names = take_16(in);
+    const uint8_t length = LENGTHS[choice % 5];
+
+    if (choice < 0xC0) {
+        put_link(parts, ENHANCED_LINK, length, names);
+    } else if (choice < 0xF0 || choice >= 0xF8) {
+        put_link(parts, SHORT_LINK, choice < 0xF0 ? SHORT_LENGTH : length, names);
+    } else {
+        put_link(parts, choice & 2 ? SHORT_LINK : ENHANCED_LINK, SHORT_LENGTH, names);
+        put_link(parts, choice & 1 ? SHORT_LINK : ENHANCED_LINK, SHORT_LENGTH, names);
+    }
+}
+
 /* None, a good one, one out of range, or two. */
 static void make_tolerance(struct input *in, struct parts *parts)
 {
@@ -229,9 +257,7 @@ static void make_sheet(struct input *in, struct parts *parts)
         make_raw(in, parts);
         return;
     }
-    put(parts, 1, 1);
-    put(parts, LENGTHS[take(in) % 5], 1);
-    put(parts, take_16(in), 2);
+    make_link(in, parts);
     if (control < 0x80) {
         make_plan(parts, &PLANS[control % PLAN_COUNT]);
         if (control & 0x40)

@@ -45,17 +45,16 @@ fault "a tolerance of 0 refused" engine/sheet.rs 's/failures > TOLERANCE_LIMIT/f
 fault "a tolerance of 255 taken" engine/sheet.rs 's/failures > TOLERANCE_LIMIT/failures != 255 \&\& &/'
 fault "two bits of a tolerance looked at" engine/sheet.rs 's/self.take_tolerance(record\[1\])/self.take_tolerance(record[1] \& 3)/'
 fault "a tolerance's range told as too much" engine/sheet.rs '/fn take_tolerance/,/^    }/s/answer::RANGE/answer::TOO_MUCH/'
-chosen "two tolerances" engine/sheet.rs "$(may_follow Tolerance)"
+chosen "two tolerances" engine/kind.rs "$(may_follow Tolerance)"
 fault "two equal tolerances" engine/sheet.rs \
     's/if !kind.in_place(last) {/if !kind.in_place(last) \&\& (octet, last, self.octets.get(place + 1)) != (6, Some(kind), self.octets.get(place - 1)) {/'
-fault "a second tolerance told as too much" engine/sheet.rs \
-    "$(may_follow Tolerance); s/if failures > TOLERANCE_LIMIT/if self.tolerance.is_some() { return Err(answer::TOO_MUCH); } &/"
-chosen "an item behind a tolerance" engine/sheet.rs "$(may_follow Item)"
-fault "a parameter behind a tolerance" engine/sheet.rs "$(may_follow Parameter)"
-fault "a region behind a tolerance" engine/sheet.rs "$(may_follow Region)"
-fault "a tolerance before the link record" engine/sheet.rs 's/None => self == Kind::Link,/None => self == Kind::Link || self == Kind::Tolerance,/'
-fault "a tolerance behind items alone" engine/sheet.rs 's/self != Kind::Link \&\& self >= last/& \&\& (self != Kind::Tolerance || last == Kind::Item)/'
-fault "a tolerance behind the link record refused" engine/sheet.rs \
+fault "a second tolerance told as too much" engine/sheet.rs "$(before_place 'last == Some(kind)' TOO_MUCH)"
+chosen "an item behind a tolerance" engine/kind.rs "$(may_follow Item)"
+fault "a parameter behind a tolerance" engine/kind.rs "$(may_follow Parameter)"
+fault "a region behind a tolerance" engine/kind.rs "$(may_follow Region)"
+fault "a tolerance before the link record" engine/kind.rs 's/None => self == Kind::Link,/None => self == Kind::Link || self == Kind::Tolerance,/'
+fault "a tolerance behind items alone" engine/kind.rs 's/self != Kind::Link \&\& self >= last/& \&\& (self != Kind::Tolerance || last == Kind::Item)/'
+fault "a tolerance behind the link record refused" engine/kind.rs \
     's/self != Kind::Link \&\& self >= last/& \&\& (self != Kind::Tolerance || last > Kind::Link)/'
 fault "a tolerance's range before its place" engine/sheet.rs "$(before_place 'self.octets.get(place + 1).map_or(false, |\&value| value > 3)' RANGE)"
 fault "a tolerance's cut before its place" engine/sheet.rs "$(before_place 'self.octets.len() < place + 2' CUT)"
@@ -63,10 +62,10 @@ fault "what is behind a tolerance told at the tolerance" engine/sheet.rs \
     's/refuse_at(number, place))?;/refuse_at(number, if number == 13 \&\& last == Some(Kind::Tolerance) { place - 2 } else { place }))?;/'
 fault "a tolerance's range told at its body" engine/sheet.rs \
     's/refuse_at(number, place))?;/refuse_at(number, if number == 14 \&\& octets[place] == 6 { place + 1 } else { place }))?;/'
-fault "kind 06 unknown" engine/sheet.rs 's/6 => Some(Kind::Tolerance),//'
-fault "kind 05 a tolerance" engine/sheet.rs 's/6 => Some(Kind::Tolerance)/5 | 6 => Some(Kind::Tolerance)/'
-fault "kind 07 a tolerance" engine/sheet.rs 's/6 => Some(Kind::Tolerance)/6 | 7 => Some(Kind::Tolerance)/'
-fault "a tolerance of two octets" engine/sheet.rs 's/TOLERANCE_RECORD: usize = 2/TOLERANCE_RECORD: usize = 3/'
+fault "kind 06 unknown" engine/kind.rs 's/6 => Some(Kind::Tolerance),//'
+fault "kind 08 a tolerance" engine/kind.rs 's/6 => Some(Kind::Tolerance)/6 | 8 => Some(Kind::Tolerance)/'
+fault "kind 07 a tolerance" engine/kind.rs 's/6 => Some(Kind::Tolerance)/6 | 7 => Some(Kind::Tolerance)/'
+fault "a tolerance of two octets" engine/kind.rs 's/TOLERANCE_RECORD: usize = 2/TOLERANCE_RECORD: usize = 3/'
 chosen "a cut tolerance told as its range" engine/sheet.rs "$(before_place 'self.octets.len() == place + 1 \&\& kind.in_place(last)' RANGE)"
 
 group "failures in a row"
@@ -90,11 +89,11 @@ fault "the count stays at 1" engine/state.rs 's/self.with_failures(self.failures
 fault "a failure counts twice" engine/state.rs 's/self.with_failures(self.failures() + 1)/self.with_failures(self.failures() + 2)/'
 fault "a failure does not count" engine/state.rs 's/self.with_failures(self.failures() + 1)/self/'
 fault "executed in a tolerated cycle" engine/exchange.rs \
-    "$(beside 'if let Ok(act) = judge(sheet, \&before, command) { perform(act, \&mut outcome, memory, command); }')"
+    "$(beside 'if let Ok(act) = judge(sheet, \&before, command) { perform(frame, act, \&mut outcome, memory, command); }')"
 chosen "stored in a tolerated cycle" engine/exchange.rs \
     "$(beside 'if let Ok(Act::Write(write)) = judge(sheet, \&before, command) { outcome.write = Some(write); }')"
 fault "data read in a tolerated cycle" engine/exchange.rs \
-    "$(beside 'if let Ok(act @ (Act::Read(_) | Act::Identify(_))) = judge(sheet, \&before, command) { perform(act, \&mut outcome, memory, command); }')"
+    "$(beside 'if let Ok(act @ (Act::Read(_) | Act::Identify(_))) = judge(sheet, \&before, command) { perform(frame, act, \&mut outcome, memory, command); }')"
 fault "octets come again in a tolerated cycle" engine/exchange.rs "$(beside 'outcome.reply[4..8].copy_from_slice(\&command[4..8]);')"
 fault "ALM_CLR in a tolerated cycle" engine/exchange.rs \
     "$(beside 'if let Ok(Act::ClearLatches) = judge(sheet, \&before, command) { outcome.state = outcome.state.cleared(); }')"
@@ -110,12 +109,12 @@ fault "the command latch cleared in a tolerated cycle" engine/exchange.rs "$(bes
 fault "dual dropped in a tolerated cycle" engine/exchange.rs "$(beside 'outcome.state.dual = false;')"
 fault "link 2 in a tolerated cycle" engine/exchange.rs "$(beside 'outcome.state.link = Link::AsyncConnected;')"
 fault "RSN not advanced" engine/exchange.rs "$(counted_so 'c.rsn = b.rsn;')"
-fault "RSN out of SN" engine/exchange.rs "$(counted_so 'c.rsn = (command[1] >> 4) + 1 \& 15; let _ = b;')"
+fault "RSN out of SN" engine/exchange.rs "$(counted_so 'c.rsn = (wdt >> 4) + 1 \& 15; let _ = b;')"
 fault "RSN runs to 16 in a tolerated cycle" engine/exchange.rs "$(counted_so 'c.rsn = b.rsn + 1;')"
 fault "last MN not taken" engine/exchange.rs "$(counted_so 'c.last_mn = b.last_mn;')"
 fault "last MN counted on" engine/exchange.rs "$(counted_so 'c.last_mn = (b.last_mn + 1) % 16;')"
 fault "RWDT 0 in a tolerated cycle" engine/exchange.rs 's/if state.link == Link::SyncConnected {/if state.link == Link::SyncConnected \&\& tolerated == 0 {/'
-fault "RWDT with the old RSN in a tolerated cycle" engine/exchange.rs 's/reply\[1\] = rsn << 4/reply[1] = (if tolerated == 0 { rsn } else { rsn + 15 }) << 4/'
+fault "RWDT with the old RSN in a tolerated cycle" engine/exchange.rs 's/reply\[frame.wdt\] = rsn << 4/reply[frame.wdt] = (if tolerated == 0 { rsn } else { rsn + 15 }) << 4/'
 fault "bit 1 left out" engine/exchange.rs 's/tolerated = TOLERATED;/tolerated = 0;/'
 fault "bit 1 after a lost cycle" engine/exchange.rs 's/outcome.state = before.cycle_lost();/& tolerated = TOLERATED;/'
 fault "bit 1 in the last tolerated cycle alone" engine/exchange.rs 's/tolerated = TOLERATED;/if before.failures() + 1 == sheet.tolerance() { & }/'
@@ -128,11 +127,11 @@ fault "no bit 0 in a tolerated cycle" engine/exchange.rs 's/let latched = if sta
 fault "no bit 2 in a tolerated cycle" engine/exchange.rs 's/reply\[2\] = READY |/reply[2] = (if tolerated == 0 { READY } else { 0 }) |/'
 fault "no communication latch told in a tolerated cycle" engine/exchange.rs \
     's/reply\[3\] = state.communication_latch << 4/reply[3] = (if tolerated == 0 { state.communication_latch } else { 0 }) << 4/'
-fault "no identity in a tolerated cycle" engine/exchange.rs 's/command\[2\] & IDENTITY/if tolerated == 0 { command[2] \& IDENTITY } else { 0 }/'
-fault "MN alone tolerated" engine/exchange.rs "$(only_if 'before.counters.map_or(false, |counters| counters.rsn == command[1] >> 4)')"
+fault "no identity in a tolerated cycle" engine/exchange.rs 's/command\[2\] & frame.identity/if tolerated == 0 { command[2] \& frame.identity } else { 0 }/'
+fault "MN alone tolerated" engine/exchange.rs "$(only_if 'before.counters.map_or(false, |counters| counters.rsn == wdt >> 4)')"
 fault "SN alone tolerated" engine/exchange.rs "$(only_if 'before.counters.map_or(false, |counters| (counters.last_mn + 1) % 16 == mn)')"
 fault "MN and SN together not tolerated" engine/exchange.rs \
-    "$(only_if 'before.counters.map_or(false, |counters| (counters.last_mn + 1) % 16 == mn || counters.rsn == command[1] >> 4)')"
+    "$(only_if 'before.counters.map_or(false, |counters| (counters.last_mn + 1) % 16 == mn || counters.rsn == wdt >> 4)')"
 fault "a repeated MN not tolerated" engine/exchange.rs "$(only_if 'before.counters.map_or(false, |counters| counters.last_mn != mn)')"
 fault "a failure of DISCONNECT not tolerated" engine/exchange.rs "$(only_if 'command[0] != 0x0F')"
 fault "a failure of an unknown code not tolerated" engine/exchange.rs \

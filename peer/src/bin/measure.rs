@@ -49,7 +49,7 @@ fn print_replays(batches: usize) -> bool {
     println!();
     println!("### Replay");
     println!();
-    println!("Median of calls with {RECORDS} records of L 64, one core; times in nanoseconds per record.");
+    println!("Median of calls with {RECORDS} records, of L 64 unless told otherwise, one core; times in nanoseconds per record.");
     println!();
     println!("| trace | peer | t24 | t24 / peer | t24 records per second |");
     println!("|---|---:|---:|---:|---:|");

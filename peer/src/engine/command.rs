@@ -1,5 +1,6 @@
 //! The commands: checks 2 to 5 of an exchange, in document 01's order.
 
+use super::code::Code;
 use super::memory_mode;
 use super::octets::{number_16, number_32};
 use super::region::{before_lacking, find_span, mapped_place, READ, WRITE_ASYNC, WRITE_SYNC};
@@ -16,71 +17,23 @@ pub const ALARM_RIGHTS: u8 = 10;
 /// Code not allowed in this link.
 pub const ALARM_LINK: u8 = 12;
 
-/// A field that failed has its first octet as place (request 3), so a parameter's number and ALM's
-/// octets 4-5 as a whole have 4.
+/// A field that failed has its first octet as place (request 3), so a parameter's number has 4. Those
+/// that stand elsewhere in another type, or are longer there, are in that type's frame.
 const NUMBER_AT: u32 = 4;
 const ID_CODE_AT: u32 = 4;
-const ALARM_MODE_AT: u32 = 4;
 const VERSION_AT: u32 = 4;
 const COM_MOD_AT: u32 = 5;
 const COM_TIME_AT: u32 = 6;
-const PROFILE_AT: u32 = 7;
 const MEMORY_MODE_AT: u32 = 5;
 /// "For a count or size, with its product or sum, it is 6."
 const SIZE_AT: u32 = 6;
 /// "For an unmapped address, 8."
 const ADDRESS_AT: u32 = 8;
 /// "For ALM_RD at L 8, 0."
-const SHORT_PDU: u32 = 0;
+const NO_ROOM: u32 = 0;
 
-/// Octets before the data of a parameter or an ID item.
-const SHORT_HEAD: usize = 8;
 /// Octets before the data of a memory command.
 const MEMORY_HEAD: usize = 12;
-
-/// The commands that are built (codes of 002, 4.2.2.2.1).
-#[derive(Clone, Copy, Debug, PartialEq, Eq)]
-pub enum Code {
-    Nop,
-    PrmRd,
-    PrmWr,
-    IdRd,
-    AlmRd,
-    AlmClr,
-    SyncSet,
-    Connect,
-    Disconnect,
-    MemRd,
-    MemWr,
-}
-
-impl Code {
-    fn of(octet: u8) -> Option<Code> {
-        match octet {
-            0x00 => Some(Code::Nop),
-            0x01 => Some(Code::PrmRd),
-            0x02 => Some(Code::PrmWr),
-            0x03 => Some(Code::IdRd),
-            0x05 => Some(Code::AlmRd),
-            0x06 => Some(Code::AlmClr),
-            0x0D => Some(Code::SyncSet),
-            0x0E => Some(Code::Connect),
-            0x0F => Some(Code::Disconnect),
-            0x1D => Some(Code::MemRd),
-            0x1E => Some(Code::MemWr),
-            _ => None,
-        }
-    }
-
-    fn allowed_in(self, link: Link) -> bool {
-        match self {
-            Code::Nop | Code::Disconnect => true,
-            Code::Connect => link == Link::Disconnected,
-            Code::SyncSet => link == Link::AsyncConnected,
-            _ => link == Link::AsyncConnected || link == Link::SyncConnected,
-        }
-    }
-}
 
 /// Octets that go from memory to reply, or from command to memory and reply.
 #[derive(Clone, Debug, PartialEq, Eq)]
@@ -129,7 +82,8 @@ fn wrong(place: u32) -> Refused {
 
 /// What the command does, or its alarm with the place.
 pub fn judge<'a>(sheet: &Sheet<'a>, state: &State, command: &[u8]) -> Result<Act<'a>, Refused> {
-    let code = Code::of(command[0]).ok_or(refused(ALARM_CODE))?;
+    let code = sheet.frame().code(command[0]);
+    let code = code.ok_or(refused(ALARM_CODE))?;
     if !code.allowed_in(state.link) {
         return Err(refused(ALARM_LINK));
     }
@@ -138,9 +92,9 @@ pub fn judge<'a>(sheet: &Sheet<'a>, state: &State, command: &[u8]) -> Result<Act
         Code::PrmRd => parameter(sheet, command, READ).map(Act::Read),
         Code::PrmWr => parameter(sheet, command, write_right(state.link)).map(Act::Write),
         Code::IdRd => identity(sheet, command).map(Act::Identify),
-        Code::AlmRd if command.len() < 16 => Err(wrong(SHORT_PDU)),
-        Code::AlmRd => current_alarm_mode(command).map(|()| Act::ShowLatches),
-        Code::AlmClr => current_alarm_mode(command).map(|()| Act::ClearLatches),
+        Code::AlmRd if command.len() < 16 => Err(wrong(NO_ROOM)),
+        Code::AlmRd => current_alarm_mode(sheet, command).map(|()| Act::ShowLatches),
+        Code::AlmClr => current_alarm_mode(sheet, command).map(|()| Act::ClearLatches),
         Code::SyncSet => Ok(Act::Synchronize),
         Code::Connect => connection(sheet, command).map(|()| Act::Connect),
         Code::Disconnect => Ok(Act::Disconnect),
@@ -183,12 +137,12 @@ fn parameter(sheet: &Sheet, command: &[u8], right: u8) -> Result<Transfer, Refus
     let parameter = sheet.find_parameter(number).ok_or(wrong(NUMBER_AT))?;
     let length = usize::from(parameter.size);
     require(command[6] == parameter.size, SIZE_AT)?;
-    require(length <= command.len() - SHORT_HEAD, SIZE_AT)?;
+    require(length <= sheet.frame().room(command.len()), SIZE_AT)?;
     permitted(sheet, parameter.address, length, right)?;
     Ok(Transfer {
         place: mapped_place(sheet.regions(), parameter.address),
         length,
-        data: SHORT_HEAD,
+        data: sheet.frame().data,
         echo: 4..7,
     })
 }
@@ -197,16 +151,17 @@ fn parameter(sheet: &Sheet, command: &[u8], right: u8) -> Result<Transfer, Refus
 fn identity<'a>(sheet: &Sheet<'a>, command: &[u8]) -> Result<&'a [u8], Refused> {
     let item = sheet.find_item(command[4]).ok_or(wrong(ID_CODE_AT))?;
     let offset = usize::from(command[5]);
-    let size = usize::from(number_16(command, 6));
+    let size = sheet.frame().id_size.of(command);
     require(size >= 1, SIZE_AT)?;
     require(offset + size <= item.len(), SIZE_AT)?;
-    require(size <= command.len() - SHORT_HEAD, SIZE_AT)?;
+    require(size <= sheet.frame().room(command.len()), SIZE_AT)?;
     Ok(&item[offset..offset + size])
 }
 
-/// Octets 4 and 5 are one field, so its place is 4 where octet 5 alone is not zero too.
-fn current_alarm_mode(command: &[u8]) -> Result<(), Refused> {
-    require(number_16(command, 4) == 0, ALARM_MODE_AT)
+/// A field of two octets has its first as place where the second alone is not zero too.
+fn current_alarm_mode(sheet: &Sheet, command: &[u8]) -> Result<(), Refused> {
+    let mode = sheet.frame().alarm_mode;
+    require(mode.of(command) == 0, mode.place())
 }
 
 fn connection(sheet: &Sheet, command: &[u8]) -> Result<(), Refused> {
@@ -214,7 +169,14 @@ fn connection(sheet: &Sheet, command: &[u8]) -> Result<(), Refused> {
     let mode = CommunicationMode::of(command[5]).ok_or(wrong(COM_MOD_AT))?;
     let least_com_time = if mode.dual { 2 } else { 1 };
     require(command[6] >= least_com_time, COM_TIME_AT)?;
-    require(command[7] == sheet.profile(), PROFILE_AT)
+    match sheet.frame().profile {
+        Some(profile) => require(
+            profile.of(command) == usize::from(sheet.profile()),
+            profile.place(),
+        ),
+        // "One not there isn't checked" (request 7).
+        None => Ok(()),
+    }
 }
 
 fn memory(sheet: &Sheet, command: &[u8], right: u8) -> Result<Transfer, Refused> {

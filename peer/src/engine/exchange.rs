@@ -1,6 +1,7 @@
 //! One exchange: decided as a whole first, stored afterwards.
 
 use super::command::{judge, Act, CommunicationMode, Transfer};
+use super::frame::Frame;
 use super::sheet::Sheet;
 use super::state::{Link, State};
 
@@ -12,8 +13,6 @@ const LATCHED: u8 = 1;
 const TOLERATED: u8 = 2;
 /// Status bit 2: ready for a new command.
 const READY: u8 = 4;
-/// Bits 6 and 7 of octet 2, by which a master tells the replies to a repeated command apart.
-const IDENTITY: u8 = 0xC0;
 
 /// What an exchange leaves behind, once it is stored.
 pub struct Outcome {
@@ -38,7 +37,9 @@ impl Outcome {
 
 /// Decides the exchange of a command of L octets in a link that is not Disabled.
 pub fn decide(sheet: &Sheet, before: State, memory: &[u8], command: &[u8]) -> Outcome {
-    let mn = command[1] & 15;
+    let frame = sheet.frame();
+    let wdt = command[frame.wdt];
+    let mn = wdt & 15;
     let mut outcome = Outcome {
         state: before,
         place: 0,
@@ -46,10 +47,10 @@ pub fn decide(sheet: &Sheet, before: State, memory: &[u8], command: &[u8]) -> Ou
         write: None,
     };
     let (mut alarm, mut tolerated) = (0, 0);
-    if !before.misses(command[1]) {
+    if !before.misses(wdt) {
         outcome.state = before.in_step();
         match judge(sheet, &before, command) {
-            Ok(act) => perform(act, &mut outcome, memory, command),
+            Ok(act) => perform(frame, act, &mut outcome, memory, command),
             Err(refused) => {
                 alarm = refused.alarm;
                 outcome.state = outcome.state.with_alarm(alarm);
@@ -65,12 +66,12 @@ pub fn decide(sheet: &Sheet, before: State, memory: &[u8], command: &[u8]) -> Ou
     if before.link == Link::SyncConnected && outcome.state.link == Link::SyncConnected {
         outcome.state = outcome.state.counted(mn);
     }
-    write_head(&mut outcome, command, tolerated, alarm);
+    write_head(frame, &mut outcome, command, tolerated, alarm);
     outcome
 }
 
 /// Fills the body and turns the state of an accepted command.
-fn perform(act: Act, outcome: &mut Outcome, memory: &[u8], command: &[u8]) {
+fn perform(frame: &Frame, act: Act, outcome: &mut Outcome, memory: &[u8], command: &[u8]) {
     let before = outcome.state;
     let reply = &mut outcome.reply;
     match act {
@@ -87,17 +88,17 @@ fn perform(act: Act, outcome: &mut Outcome, memory: &[u8], command: &[u8]) {
             outcome.write = Some(transfer);
         }
         Act::Identify(octets) => {
-            reply[4..8].copy_from_slice(&command[4..8]);
-            reply[8..8 + octets.len()].copy_from_slice(octets);
+            reply[frame.echo.clone()].copy_from_slice(&command[frame.echo.clone()]);
+            reply[frame.data..frame.data + octets.len()].copy_from_slice(octets);
         }
         Act::ShowLatches => {
-            reply[8] = before.command_latch;
-            reply[9] = before.communication_latch;
+            reply[frame.latches] = before.command_latch;
+            reply[frame.latches + 1] = before.communication_latch;
         }
         Act::ClearLatches => outcome.state = before.cleared(),
         Act::Synchronize => outcome.state = before.sync_connected(before.com_time, false),
         Act::Connect => {
-            reply[4..8].copy_from_slice(&command[4..8]);
+            reply[frame.echo.clone()].copy_from_slice(&command[frame.echo.clone()]);
             outcome.state = connect(before, command[5], command[6]);
         }
         Act::Disconnect => outcome.state = before.disconnected(),
@@ -112,16 +113,18 @@ fn connect(before: State, com_mod: u8, com_time: u8) -> State {
     }
 }
 
-/// Code, RWDT and status; every reply gets its head here, so the identity is echoed in each.
-fn write_head(outcome: &mut Outcome, command: &[u8], tolerated: u8, alarm: u8) {
+/// Code, RWDT, status and alarm; every reply gets them here, so the identity is echoed in each.
+fn write_head(frame: &Frame, outcome: &mut Outcome, command: &[u8], tolerated: u8, alarm: u8) {
     let state = &outcome.state;
     let reply = &mut outcome.reply;
     reply[0] = command[0];
     if state.link == Link::SyncConnected {
         let rsn = state.counters.map_or(0, |counters| counters.rsn);
-        reply[1] = rsn << 4 | command[1] & 15;
+        reply[frame.wdt] = rsn << 4 | command[frame.wdt] & 15;
     }
     let latched = if state.latched() { LATCHED } else { 0 };
-    reply[2] = READY | latched | tolerated | command[2] & IDENTITY;
-    reply[3] = state.communication_latch << 4 | alarm;
+    reply[2] = READY | latched | tolerated | command[2] & frame.identity;
+    reply[3] = state.communication_latch << 4;
+    // Octet 3's low half or an octet of its own, which is zero so far.
+    reply[frame.alarm] |= alarm;
 }

@@ -1,13 +1,16 @@
 //! The slave on byte slices, as document 01 ("What we are to build") rules,
-//! with requests 1, 3, 5, 6, 8 and 9 of document 02.
+//! with requests 1, 3 and 5 to 9 of document 02.
 //!
 //! Each call answers number + 2^32 × place. A call with a number other than 0
 //! has written nothing, except a replay's difference (34), which has replayed
 //! the records before the differing one.
 
 pub mod answer;
+pub mod code;
 pub mod command;
 pub mod exchange;
+pub mod frame;
+pub mod kind;
 pub mod memory_mode;
 pub mod octets;
 pub mod region;
@@ -29,6 +32,14 @@ mod replay_tests;
 mod rule_tests;
 #[cfg(test)]
 mod sheet_tests;
+#[cfg(test)]
+mod short_bench_tests;
+#[cfg(test)]
+mod short_field_tests;
+#[cfg(test)]
+mod short_replay_tests;
+#[cfg(test)]
+mod short_sheet_tests;
 #[cfg(test)]
 mod tolerance_tests;
 #[cfg(test)]

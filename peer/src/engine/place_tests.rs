@@ -60,7 +60,7 @@ fn told(octets: &[u8]) -> (u8, u64) {
 }
 
 /// Octets 4 to 7 behind the head.
-fn short(code: u8, fields: [u8; 4]) -> Vec<u8> {
+fn four(code: u8, fields: [u8; 4]) -> Vec<u8> {
     [&[code, NEXT, 0, 0][..], &fields].concat()
 }
 
@@ -74,18 +74,18 @@ fn memory(code: u8, mode: u8, count: u16, address: u32) -> Vec<u8> {
 #[test]
 fn a_parameters_number_has_4_and_its_size_6() {
     for code in [1, 2] {
-        assert_eq!(told(&short(code, [1, 1, 3, 0])), (0, 0));
+        assert_eq!(told(&four(code, [1, 1, 3, 0])), (0, 0));
         for number in [[0, 1], [4, 1], [1, 0], [1, 2]] {
-            assert_eq!(told(&short(code, [number[0], number[1], 3, 0])), (9, 4));
+            assert_eq!(told(&four(code, [number[0], number[1], 3, 0])), (9, 4));
         }
         for size in [0, 2, 4, 255] {
-            assert_eq!(told(&short(code, [1, 1, size, 0])), (9, 6));
+            assert_eq!(told(&four(code, [1, 1, size, 0])), (9, 6));
         }
         // Nine octets are one over L - 8.
-        assert_eq!(told(&short(code, [3, 1, 9, 0])), (9, 6));
+        assert_eq!(told(&four(code, [3, 1, 9, 0])), (9, 6));
         for pdu_length in LENGTHS {
             let place = if pdu_length == 8 { (9, 6) } else { (0, 0) };
-            let command = short(code, [1, 1, 3, 0]);
+            let command = four(code, [1, 1, 3, 0]);
             assert_eq!(told_at(pdu_length, SYNC, &command), place);
         }
     }
@@ -93,16 +93,16 @@ fn a_parameters_number_has_4_and_its_size_6() {
 
 #[test]
 fn an_items_code_has_4_and_its_size_6() {
-    assert_eq!(told(&short(3, [9, 0, 3, 0])), (0, 0));
-    assert_eq!(told(&short(3, [8, 0, 3, 0])), (9, 4));
-    assert_eq!(told(&short(3, [10, 0, 3, 0])), (9, 4));
+    assert_eq!(told(&four(3, [9, 0, 3, 0])), (0, 0));
+    assert_eq!(told(&four(3, [8, 0, 3, 0])), (9, 4));
+    assert_eq!(told(&four(3, [10, 0, 3, 0])), (9, 4));
     for (offset, size) in [(0, 0), (0, 4), (1, 3), (2, 2), (3, 1), (3, 0), (255, 1)] {
-        assert_eq!(told(&short(3, [9, offset, size, 0])), (9, 6));
+        assert_eq!(told(&four(3, [9, offset, size, 0])), (9, 6));
     }
-    assert_eq!(told(&short(3, [9, 0, 1, 1])), (9, 6));
+    assert_eq!(told(&four(3, [9, 0, 1, 1])), (9, 6));
     // At L 8 no size is at most L - 8.
-    assert_eq!(told_at(8, ASYNC, &short(3, [9, 0, 1, 0])), (9, 6));
-    assert_eq!(told_at(8, ASYNC, &short(3, [8, 0, 1, 0])), (9, 4));
+    assert_eq!(told_at(8, ASYNC, &four(3, [9, 0, 1, 0])), (9, 6));
+    assert_eq!(told_at(8, ASYNC, &four(3, [8, 0, 1, 0])), (9, 4));
 }
 
 #[test]
@@ -110,12 +110,12 @@ fn alm_has_4_whichever_octet_is_not_zero_and_0_at_l_8() {
     for pdu_length in LENGTHS {
         for mode in [[1, 0], [0, 1], [0, 255], [3, 7]] {
             let fields = [mode[0], mode[1], 0, 0];
-            let clear = told_at(pdu_length, ASYNC, &short(6, fields));
-            let read = told_at(pdu_length, SYNC, &short(5, fields));
+            let clear = told_at(pdu_length, ASYNC, &four(6, fields));
+            let read = told_at(pdu_length, SYNC, &four(5, fields));
             let place = if pdu_length == 8 { 0 } else { 4 };
             assert_eq!((clear, read), ((9, 4), (9, place)));
         }
-        let read = told_at(pdu_length, ASYNC, &short(5, [0; 4]));
+        let read = told_at(pdu_length, ASYNC, &four(5, [0; 4]));
         let expected = if pdu_length == 8 { 9 } else { 0 };
         assert_eq!(read, (expected, 0));
     }
@@ -124,7 +124,7 @@ fn alm_has_4_whichever_octet_is_not_zero_and_0_at_l_8() {
 #[test]
 fn each_field_of_connect_has_its_octet() {
     for pdu_length in LENGTHS {
-        let connect = |fields| told_at(pdu_length, DISCONNECTED, &short(0x0E, fields));
+        let connect = |fields| told_at(pdu_length, DISCONNECTED, &four(0x0E, fields));
         assert_eq!(connect([3, 2, 1, 4]), (0, 0));
         assert_eq!(
             (connect([2, 2, 1, 4]), connect([4, 2, 1, 4])),
@@ -204,8 +204,8 @@ fn alarm_10_counts_the_octets_before_the_first_that_lacks_the_right() {
         }
     }
     for code in [1, 2] {
-        assert_eq!(told(&short(code, [2, 1, 8, 0])), (10, 3));
-        assert_eq!(told_at(32, SYNC, &short(code, [3, 1, 9, 0])), (10, 3));
+        assert_eq!(told(&four(code, [2, 1, 8, 0])), (10, 3));
+        assert_eq!(told_at(32, SYNC, &four(code, [3, 1, 9, 0])), (10, 3));
     }
 }
 
@@ -213,7 +213,7 @@ fn alarm_10_counts_the_octets_before_the_first_that_lacks_the_right() {
 fn alarms_8_and_12_and_a_lost_cycle_have_0() {
     for pdu_length in LENGTHS {
         for code in 0..=255 {
-            let command = short(code, [0xFF; 4]);
+            let command = four(code, [0xFF; 4]);
             // The last MN, or the RSN, is such that this WDT loses the cycle.
             for at in [4, 5] {
                 let mut lost = SYNC;
@@ -222,15 +222,15 @@ fn alarms_8_and_12_and_a_lost_cycle_have_0() {
             }
         }
         for code in [1, 2, 3, 5, 6, 0x0D, 0x1D, 0x1E] {
-            let command = short(code, [0xFF; 4]);
+            let command = four(code, [0xFF; 4]);
             assert_eq!(told_at(pdu_length, DISCONNECTED, &command), (12, 0));
         }
         for state in [DISCONNECTED, ASYNC, SYNC] {
-            assert_eq!(told_at(pdu_length, state, &short(0x77, [0xFF; 4])), (8, 0));
-            assert_eq!(told_at(pdu_length, state, &short(0, [0xFF; 4])), (0, 0));
+            assert_eq!(told_at(pdu_length, state, &four(0x77, [0xFF; 4])), (8, 0));
+            assert_eq!(told_at(pdu_length, state, &four(0, [0xFF; 4])), (0, 0));
         }
         for state in [ASYNC, SYNC] {
-            let connect = short(0x0E, [0xFF; 4]);
+            let connect = four(0x0E, [0xFF; 4]);
             assert_eq!(told_at(pdu_length, state, &connect), (12, 0));
         }
     }
@@ -240,12 +240,12 @@ fn alarms_8_and_12_and_a_lost_cycle_have_0() {
 #[test]
 fn of_two_wrong_fields_the_first_is_told() {
     for code in [1, 2] {
-        assert_eq!(told(&short(code, [0, 1, 4, 0])), (9, 4));
-        assert_eq!(told(&short(code, [2, 1, 7, 0])), (9, 6));
+        assert_eq!(told(&four(code, [0, 1, 4, 0])), (9, 4));
+        assert_eq!(told(&four(code, [2, 1, 7, 0])), (9, 6));
     }
-    assert_eq!(told(&short(3, [8, 0, 0, 0])), (9, 4));
-    assert_eq!(told(&short(3, [8, 9, 9, 9])), (9, 4));
-    let connect = |fields| told_at(16, DISCONNECTED, &short(0x0E, fields));
+    assert_eq!(told(&four(3, [8, 0, 0, 0])), (9, 4));
+    assert_eq!(told(&four(3, [8, 9, 9, 9])), (9, 4));
+    let connect = |fields| told_at(16, DISCONNECTED, &four(0x0E, fields));
     for (fields, place) in [
         ([2, 1, 1, 4], 4),
         ([2, 2, 0, 4], 4),
@@ -274,8 +274,8 @@ fn a_replay_tells_no_place_of_a_refused_command() {
     let (sheet, start) = (sheet(16), record(16, ASYNC));
     let (mut state, mut memory_octets, mut trace) = (start, [0; MEMORY], Vec::new());
     for mut command in [
-        short(0x77, [0; 4]),
-        short(1, [0; 4]),
+        four(0x77, [0; 4]),
+        four(1, [0; 4]),
         memory(0x1D, 0x11, 4, 0x11),
     ] {
         let mut reply = [0; 16];

@@ -1,6 +1,8 @@
 //! The device sheet: its reader with every fault, and its records.
 
 use super::answer::{self, refuse_at, Answer};
+use super::frame::Frame;
+use super::kind::{Kind, ITEM_RECORD, LINK_RECORD, PARAMETER_RECORD, REGION_RECORD};
 use super::octets::{number_16, number_32};
 use super::region::{find_span, Region, RIGHTS};
 
@@ -13,58 +15,6 @@ const PARAMETER_SIZE_LIMIT: u8 = 56;
 const ITEM_LENGTH_LIMIT: u8 = 32;
 const TOLERANCE_LIMIT: u8 = 3;
 const ADDRESSES: u64 = 1 << 32;
-
-const LINK_RECORD: usize = 4;
-const REGION_RECORD: usize = 10;
-const PARAMETER_RECORD: usize = 8;
-const ITEM_RECORD: usize = 35;
-const TOLERANCE_RECORD: usize = 2;
-
-/// The kinds in the order in which a sheet has them, the end apart.
-#[derive(Clone, Copy, PartialEq, Eq, PartialOrd, Ord)]
-enum Kind {
-    Link,
-    Region,
-    Parameter,
-    Item,
-    /// How many failures in a row are allowed (request 9).
-    Tolerance,
-    End,
-}
-
-impl Kind {
-    fn of(octet: u8) -> Option<Kind> {
-        match octet {
-            0 => Some(Kind::End),
-            1 => Some(Kind::Link),
-            2 => Some(Kind::Region),
-            3 => Some(Kind::Parameter),
-            4 => Some(Kind::Item),
-            6 => Some(Kind::Tolerance),
-            _ => None,
-        }
-    }
-
-    fn record_length(self) -> usize {
-        match self {
-            Kind::Link => LINK_RECORD,
-            Kind::Region => REGION_RECORD,
-            Kind::Parameter => PARAMETER_RECORD,
-            Kind::Item => ITEM_RECORD,
-            Kind::Tolerance => TOLERANCE_RECORD,
-            Kind::End => 1,
-        }
-    }
-
-    /// The link record comes first and once, a tolerance once; the others never step back.
-    fn in_place(self, last: Option<Kind>) -> bool {
-        match last {
-            None => self == Kind::Link,
-            Some(Kind::Tolerance) => self > Kind::Tolerance,
-            Some(last) => self != Kind::Link && self >= last,
-        }
-    }
-}
 
 /// A parameter record.
 #[derive(Clone, Copy, Debug, PartialEq, Eq)]
@@ -200,6 +150,11 @@ impl<'a> Sheet<'a> {
         Ok(())
     }
 
+    /// Where the octets of command and reply stand, by the link record's kind.
+    pub fn frame(&self) -> &'static Frame {
+        Frame::of_link(self.octets[0])
+    }
+
     /// L, the length of command and reply.
     pub fn pdu_length(&self) -> u8 {
         self.octets[1]
@@ -272,9 +227,10 @@ impl<'a> Sheet<'a> {
 }
 
 fn check_link(record: &[u8]) -> Result<(), u32> {
-    match record[1] {
-        8 | 16 | 32 | 48 | 64 => Ok(()),
-        _ => Err(answer::RANGE),
+    if Frame::of_link(record[0]).lengths.contains(&record[1]) {
+        Ok(())
+    } else {
+        Err(answer::RANGE)
     }
 }
 

@@ -1,6 +1,7 @@
 //! Times of a replay: one call on a long trace that agrees.
 
-use super::scene::{plans, usual_exchanges, NamedPlan, PDU_LENGTH};
+use super::scene::{plans, plans_of_both_types, shared_exchanges, usual_exchanges};
+use super::scene::{NamedPlan, Scene};
 use super::stopwatch::{median, Times};
 use crate::trial::build::{command, distinct_octets, follow};
 use crate::trial::engines::Engine;
@@ -23,19 +24,23 @@ pub struct Replaying {
 /// What a replay answers and leaves behind.
 type Left = (u64, Vec<u8>, Vec<u8>);
 
-/// Traces on the typical and the largest sheet.
+/// Traces on the typical and the largest sheet, and at L 16 on the typical one of both types.
 pub fn replayings() -> Vec<Replaying> {
-    let plans = plans();
-    [&plans[1], &plans[3]].map(replaying).into()
+    let (plans, both) = (plans(), plans_of_both_types());
+    let usual = [&plans[1], &plans[3]].map(|named| replaying(named, usual_exchanges));
+    let shared = both[0]
+        .iter()
+        .map(|named| replaying(named, shared_exchanges));
+    usual.into_iter().chain(shared).collect()
 }
 
-/// The table's exchanges in turn, with a SYNC_SET in the middle.
-fn replaying(named: &NamedPlan) -> Replaying {
+/// These exchanges in turn, with a SYNC_SET in the middle.
+fn replaying(named: &NamedPlan, exchanges: fn(&NamedPlan, u8) -> Vec<Scene>) -> Replaying {
     let sheet = named.plan.octets();
-    let state = plain_state(PDU_LENGTH, ASYNC);
+    let state = plain_state(named.plan.pdu_length, ASYNC);
     let memory = distinct_octets(named.plan.memory_length());
     let mut recorded = Recorder::new(&state, &memory);
-    let commands: Vec<Vec<u8>> = usual_exchanges(named, ASYNC)
+    let commands: Vec<Vec<u8>> = exchanges(named, ASYNC)
         .into_iter()
         .filter_map(|scene| scene.exchange.map(|(_, command)| command))
         .collect();
@@ -45,7 +50,7 @@ fn replaying(named: &NamedPlan) -> Replaying {
         } else {
             commands[record % commands.len()].clone()
         };
-        follow(&mut command, recorded.current_state());
+        follow(named.plan.wire, &mut command, recorded.current_state());
         recorded.record(&sheet, &command);
     }
     Replaying {
@@ -90,16 +95,19 @@ mod tests {
     use super::*;
     use crate::trial::engines::PEER;
     use crate::trial::states::{LINK_AT, SYNC};
+    use crate::trial::wire::Wire;
 
     #[test]
     fn every_record_is_accepted_and_the_trace_agrees() {
-        let length = usize::from(PDU_LENGTH);
         for replaying in replayings() {
+            let length = usize::from(replaying.sheet[1]);
+            let wire = Wire::of_sheet(&replaying.sheet);
             let recorded = &replaying.recorded;
             assert_eq!(recorded.records, RECORDS as u64);
             assert_eq!(recorded.current_state()[LINK_AT], SYNC);
             for record in recorded.trace.chunks(1 + 2 * length) {
-                assert_eq!(record[1 + length + 3], 0, "{}", replaying.name);
+                let reply = &record[1 + length..];
+                assert_eq!((wire.alarm(reply), reply[3]), (0, 0), "{}", replaying.name);
             }
             assert!(replaying.agree(&[PEER, PEER]));
             assert!(replaying.measure(&[PEER, PEER], 1)[0] > 0.0);

@@ -1,13 +1,17 @@
 //! What is timed: reading a sheet, or one exchange from a fixed state.
 
 use crate::engine::memory_mode;
+use crate::engine::sheet::Parameter;
 use crate::trial::build;
 use crate::trial::plan::Plan;
 use crate::trial::samples::{largest, typical, Spans};
 use crate::trial::states::{counting_state, plain_state, SYNC};
 
-/// The L of all timed exchanges.
+/// The L of the timed exchanges, those that are made in both types apart.
 pub const PDU_LENGTH: u8 = 64;
+/// The L of the short type, and what a PDU of it carries of a parameter or an ID item.
+const SHORT_LENGTH: u8 = 16;
+const CARRIED: u8 = 8;
 
 /// One input for both engines.
 #[derive(Clone, Debug)]
@@ -17,6 +21,13 @@ pub struct Scene {
     pub memory: Vec<u8>,
     /// State and command of an exchange; nothing if only the sheet is read.
     pub exchange: Option<(Vec<u8>, Vec<u8>)>,
+}
+
+impl Scene {
+    /// The octets of its reply, which a mere reading has none of but room for.
+    pub fn pdu_length(&self) -> usize {
+        usize::from(self.sheet[1])
+    }
 }
 
 /// A sheet with its name.
@@ -46,6 +57,23 @@ pub fn plans() -> Vec<NamedPlan> {
     ]
 }
 
+/// Sheets of the enhanced type at the short type's L, each with the same one of the short type.
+pub fn plans_of_both_types() -> [[NamedPlan; 2]; 2] {
+    let named = |name, plan| NamedPlan { name, plan };
+    let usual = typical(SHORT_LENGTH);
+    let full = largest(SHORT_LENGTH, Spans::Last);
+    [
+        [
+            named("typical sheet, L 16", usual.clone()),
+            named("typical sheet, short type", usual.in_short()),
+        ],
+        [
+            named("largest sheet, L 16", full.clone()),
+            named("largest sheet, short type", full.in_short()),
+        ],
+    ]
+}
+
 /// Reading a sheet.
 pub fn reading(named: &NamedPlan) -> Scene {
     let sheet = named.plan.octets();
@@ -60,12 +88,12 @@ pub fn reading(named: &NamedPlan) -> Scene {
 /// One exchange from link 2, or from link 3 with the MN that follows.
 pub fn exchanging(named: &NamedPlan, link: u8, what: &str, command: Vec<u8>) -> Scene {
     let state = if link == SYNC {
-        counting_state(PDU_LENGTH, 7, 7)
+        counting_state(named.plan.pdu_length, 7, 7)
     } else {
-        plain_state(PDU_LENGTH, link)
+        plain_state(named.plan.pdu_length, link)
     };
     let mut command = command;
-    build::follow(&mut command, &state);
+    build::follow(named.plan.wire, &mut command, &state);
     Scene {
         name: format!("{what}, link {link}, {}", named.name),
         sheet: named.plan.octets(),
@@ -125,8 +153,28 @@ fn refused_exchanges(named: &NamedPlan, link: u8) -> Vec<Scene> {
     scenes
 }
 
-/// The rows of the table: reading each sheet, and exchanges on the typical and
-/// the largest in both links.
+/// Exchanges that both types have, with the same fields and data.
+pub fn shared_exchanges(named: &NamedPlan, link: u8) -> Vec<Scene> {
+    let plan = &named.plan;
+    let mut scenes = vec![exchanging(named, link, "NOP", build::command(plan, 0x00))];
+    let carried = |parameter: &&Parameter| parameter.size <= CARRIED;
+    if let Some(parameter) = plan.parameters.last().filter(carried) {
+        for (code, name) in [(0x01, "PRM_RD"), (0x02, "PRM_WR")] {
+            let command = build::parameter(plan, code, parameter.number, parameter.size);
+            let what = format!("{name} of {}", parameter.size);
+            scenes.push(exchanging(named, link, &what, command));
+        }
+    }
+    if let Some(item) = plan.items.last() {
+        let command = build::identity(plan, item.code, 0, u16::from(CARRIED));
+        let what = format!("ID_RD of {CARRIED}");
+        scenes.push(exchanging(named, link, &what, command));
+    }
+    scenes
+}
+
+/// The rows of the table: reading each sheet, exchanges on the typical and the
+/// largest in both links, and exchanges of both types at one L.
 pub fn table_scenes() -> Vec<Scene> {
     let plans = plans();
     let mut scenes: Vec<Scene> = plans.iter().map(reading).collect();
@@ -134,6 +182,13 @@ pub fn table_scenes() -> Vec<Scene> {
         for link in [2, 3] {
             scenes.extend(usual_exchanges(named, link));
             scenes.extend(refused_exchanges(named, link));
+        }
+    }
+    for link in [2, 3] {
+        for [enhanced, short] in &plans_of_both_types() {
+            let pairs = shared_exchanges(enhanced, link).into_iter();
+            let pairs = pairs.zip(shared_exchanges(short, link));
+            scenes.extend(pairs.flat_map(|(one, other)| [one, other]));
         }
     }
     scenes

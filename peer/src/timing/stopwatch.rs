@@ -27,7 +27,7 @@ impl<'a> Running<'a> {
             scene,
             state: vec![0; LENGTH],
             memory: scene.memory.clone(),
-            reply: vec![0; 64],
+            reply: vec![0; scene.pdu_length()],
         }
     }
 
@@ -114,25 +114,50 @@ pub fn median(mut times: Vec<f64>) -> f64 {
 #[cfg(test)]
 mod tests {
     use super::*;
-    use crate::timing::scene::{plans, reading, usual_exchanges};
+    use crate::timing::scene::{plans, plans_of_both_types, reading};
+    use crate::timing::scene::{shared_exchanges, usual_exchanges};
     use crate::trial::engines::PEER;
+    use crate::trial::wire::Wire;
 
     #[test]
     fn the_middle_time_is_taken() {
         assert_eq!(median(vec![9.0, 1.0, 5.0]), 5.0);
     }
 
+    fn is_accepted_and_can_be_timed(scene: &Scene) {
+        let mut running = Running::new(&PEER, scene);
+        assert_eq!(running.call(), 0);
+        let alarm = Wire::of_sheet(&scene.sheet).alarm(&running.reply);
+        assert_eq!(alarm, 0, "{}", scene.name);
+        assert!(agree(&[PEER, PEER], scene));
+        assert!(measure(&[PEER, PEER], scene, 1)[0] > 0.0);
+    }
+
     #[test]
     fn every_scene_is_accepted_and_can_be_timed() {
-        for named in plans().iter().skip(1) {
-            let mut scenes = vec![reading(named)];
-            scenes.extend([2, 3].iter().flat_map(|&link| usual_exchanges(named, link)));
-            for scene in scenes {
-                let mut running = Running::new(&PEER, &scene);
-                assert_eq!(running.call(), 0);
-                assert_eq!(running.reply[3] & 15, 0, "{}", scene.name);
-                assert!(agree(&[PEER, PEER], &scene));
-                assert!(measure(&[PEER, PEER], &scene, 1)[0] > 0.0);
+        for link in [2, 3] {
+            for named in plans().iter().skip(1) {
+                is_accepted_and_can_be_timed(&reading(named));
+                let scenes = usual_exchanges(named, link);
+                scenes.iter().for_each(is_accepted_and_can_be_timed);
+            }
+            for named in plans_of_both_types().iter().flatten() {
+                let scenes = shared_exchanges(named, link);
+                scenes.iter().for_each(is_accepted_and_can_be_timed);
+            }
+        }
+    }
+
+    /// Both types' rows are of the same exchanges: the names differ in the type alone.
+    #[test]
+    fn exchanges_of_both_types_are_the_same() {
+        for pair in plans_of_both_types() {
+            let [enhanced, short] = pair.map(|named| shared_exchanges(&named, 3));
+            assert_eq!(enhanced.len(), short.len());
+            for (one, other) in enhanced.iter().zip(&short) {
+                assert_eq!(one.name.replace("L 16", "short type"), other.name);
+                assert_eq!((one.sheet[0], other.sheet[0]), (1, 5));
+                assert_eq!(one.sheet[1..], other.sheet[1..]);
             }
         }
     }

@@ -2,6 +2,7 @@
 
 use super::plan::Plan;
 use super::states::{asks_wdt, LAST_MN_AT, RSN_AT};
+use super::wire::Wire;
 
 /// A command of this code whose unnamed octets all hold something.
 pub fn command(plan: &Plan, code: u8) -> Vec<u8> {
@@ -15,7 +16,10 @@ pub fn command(plan: &Plan, code: u8) -> Vec<u8> {
 
 pub fn connect(plan: &Plan, com_mod: u8, com_time: u8) -> Vec<u8> {
     let mut command = command(plan, 0x0E);
-    command[4..8].copy_from_slice(&[plan.version, com_mod, com_time, plan.profile]);
+    command[4..7].copy_from_slice(&[plan.version, com_mod, com_time]);
+    if plan.wire.names_profile {
+        command[7] = plan.profile;
+    }
     command
 }
 
@@ -30,13 +34,19 @@ pub fn identity(plan: &Plan, id_code: u8, offset: u8, size: u16) -> Vec<u8> {
     let mut command = command(plan, 0x03);
     command[4] = id_code;
     command[5] = offset;
-    command[6..8].copy_from_slice(&size.to_le_bytes());
+    put_field(plan, &mut command[6..], size);
     command
+}
+
+/// As many octets of the number as the type's field has; what is behind stays as it is.
+fn put_field(plan: &Plan, octets: &mut [u8], number: u16) {
+    let field = plan.wire.field_octets;
+    octets[..field].copy_from_slice(&number.to_le_bytes()[..field]);
 }
 
 pub fn alarm_mode(plan: &Plan, code: u8, mode: u16) -> Vec<u8> {
     let mut command = command(plan, code);
-    command[4..6].copy_from_slice(&mode.to_le_bytes());
+    put_field(plan, &mut command[4..], mode);
     command
 }
 
@@ -52,9 +62,9 @@ pub fn memory(plan: &Plan, code: u8, mode: u8, count: u16, address: u64) -> Vec<
 }
 
 /// Sets the MN that follows and the SN that is the RSN, where the state asks for them.
-pub fn follow(command: &mut [u8], state: &[u8]) {
+pub fn follow(wire: &Wire, command: &mut [u8], state: &[u8]) {
     if asks_wdt(state) {
-        command[1] = state[RSN_AT] << 4 | state[LAST_MN_AT].wrapping_add(1) & 15;
+        command[wire.wdt] = state[RSN_AT] << 4 | state[LAST_MN_AT].wrapping_add(1) & 15;
     }
 }
 

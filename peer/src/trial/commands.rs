@@ -11,6 +11,11 @@ pub const CODES: [u8; 11] = [
     0x00, 0x01, 0x02, 0x03, 0x05, 0x06, 0x0D, 0x0E, 0x0F, 0x1D, 0x1E,
 ];
 
+/// What is asked for often while connected; the last four only where the type has them.
+const USUAL: [u8; 13] = [
+    0x00, 0x01, 0x01, 0x02, 0x02, 0x03, 0x03, 0x05, 0x06, 0x1D, 0x1D, 0x1E, 0x1E,
+];
+
 /// A command for this sheet in this state; unnamed octets hold anything.
 pub fn random_command(random: &mut Random, plan: &Plan, state: &[u8]) -> Vec<u8> {
     let length = usize::from(plan.pdu_length);
@@ -18,26 +23,25 @@ pub fn random_command(random: &mut Random, plan: &Plan, state: &[u8]) -> Vec<u8>
     if random.chance(75) {
         random.fill(&mut command);
     }
-    command[0] = code(random, state[LINK_AT]);
-    command[1] = watchdog(random, state);
+    command[0] = code(random, plan, state[LINK_AT]);
     if !random.chance(3) {
         fill_body(random, plan, &mut command);
     }
+    command[plan.wire.wdt] = watchdog(random, state);
     command
 }
 
-fn code(random: &mut Random, link: u8) -> u8 {
+fn code(random: &mut Random, plan: &Plan, link: u8) -> u8 {
     let draw = random.below(100);
+    let usual = if plan.wire.has_memory { 13 } else { 9 };
     match link {
         _ if draw < 3 => random.octet(),
-        _ if draw < 8 => random.pick(&CODES),
+        _ if draw < 13 => random.pick(&CODES),
         DISCONNECTED if draw < 70 => 0x0E,
         DISCONNECTED => random.pick(&[0x00, 0x0F, 0x01, 0x0D, 0x1E]),
-        ASYNC if draw < 12 => 0x0D,
-        ASYNC | SYNC if draw < 14 => 0x0F,
-        _ => random.pick(&[
-            0x00, 0x01, 0x01, 0x02, 0x02, 0x03, 0x03, 0x05, 0x06, 0x1D, 0x1D, 0x1E, 0x1E,
-        ]),
+        ASYNC if draw < 17 => 0x0D,
+        ASYNC | SYNC if draw < 19 => 0x0F,
+        _ => random.pick(&USUAL[..usual]),
     }
 }
 
@@ -69,7 +73,7 @@ fn fill_body(random: &mut Random, plan: &Plan, command: &mut [u8]) {
     match command[0] {
         0x01 | 0x02 => fill_parameter(random, plan, command),
         0x03 => fill_identity(random, plan, command),
-        0x05 | 0x06 => fill_alarm_mode(random, command),
+        0x05 | 0x06 => fill_alarm_mode(random, plan, command),
         0x0E => fill_connect(random, plan, command),
         0x1D | 0x1E => fill_memory(random, plan, command),
         _ => (),
@@ -86,6 +90,12 @@ fn near(random: &mut Random, value: u64) -> u64 {
         97 => value ^ 0x80,
         _ => random.number(),
     }
+}
+
+/// A number in as many octets as the type's field for it has.
+fn put_field(plan: &Plan, command: &mut [u8], at: usize, value: u64) {
+    let octets = plan.wire.field_octets;
+    command[at..at + octets].copy_from_slice(&value.to_le_bytes()[..octets]);
 }
 
 fn put_16(command: &mut [u8], at: usize, value: u64) {
@@ -123,16 +133,16 @@ fn fill_identity(random: &mut Random, plan: &Plan, command: &mut [u8]) {
     };
     command[4] = near(random, u64::from(item.code)) as u8;
     command[5] = near(random, offset) as u8;
-    put_16(command, 6, near(random, size));
+    put_field(plan, command, 6, near(random, size));
 }
 
-fn fill_alarm_mode(random: &mut Random, command: &mut [u8]) {
+fn fill_alarm_mode(random: &mut Random, plan: &Plan, command: &mut [u8]) {
     let mode = if random.chance(80) {
         0
     } else {
-        random.pick(&[1, 0x100, 0x8000, 0xFFFF])
+        random.pick(&[1, 0x80, 0x100, 0x8000, 0xFFFF])
     };
-    put_16(command, 4, mode);
+    put_field(plan, command, 4, mode);
 }
 
 fn fill_connect(random: &mut Random, plan: &Plan, command: &mut [u8]) {
@@ -143,7 +153,9 @@ fn fill_connect(random: &mut Random, plan: &Plan, command: &mut [u8]) {
         _ => random.pick(&[0x00, 0x02, 0x02, 0x06, 0x06]),
     };
     command[6] = random.pick(&[0, 1, 1, 2, 2, 3, 255]);
-    command[7] = near(random, u64::from(plan.profile)) as u8;
+    if plan.wire.names_profile {
+        command[7] = near(random, u64::from(plan.profile)) as u8;
+    }
 }
 
 fn fill_memory(random: &mut Random, plan: &Plan, command: &mut [u8]) {

@@ -65,7 +65,7 @@ fn damage_records(random: &mut Random, records: &mut Vec<Vec<u8>>) {
     }
     let at = random.index(records.len());
     let other = random.index(records.len());
-    match random.below(7) {
+    match random.below(9) {
         0 => records.swap(at, other),
         1 => {
             let copy = records[at].clone();
@@ -79,7 +79,12 @@ fn damage_records(random: &mut Random, records: &mut Vec<Vec<u8>>) {
             let kind = random.pick(&[0, 1, 5, 6, 7, 0xFF]);
             records.insert(at, vec![kind]);
         }
-        5 => {
+        5 => link_record(random, records),
+        6 => {
+            let length = random.pick(&[8, 16, 16, 32, 15, 17]);
+            records[0] = vec![random.pick(&[1, 5]), length, 3, 4];
+        }
+        7 => {
             let failures = random.pick(&[0, 1, 2, 3, 3, 4, 0xFF]);
             records.insert(at, tolerance_record(failures));
         }
@@ -88,6 +93,17 @@ fn damage_records(random: &mut Random, records: &mut Vec<Vec<u8>>) {
             records.insert(at, [vec![2], body].concat());
         }
     }
+}
+
+/// A link record of either type, mostly beside the sheet's own.
+fn link_record(random: &mut Random, records: &mut Vec<Vec<u8>>) {
+    let at = match random.below(4) {
+        0 => random.index(records.len()),
+        other => (other as usize - 1) % 2,
+    };
+    let mut record = vec![random.pick(&[1, 5, 5]), 16, 3, 4];
+    record.truncate(random.pick(&[1, 4, 4, 4]));
+    records.insert(at.min(records.len()), record);
 }
 
 fn change_octet(random: &mut Random, octets: &mut [u8]) {

@@ -4,6 +4,7 @@
 use super::call::Inputs;
 use super::replies::Cycle;
 use super::states::{FAILURES_AT, LAST_MN_AT, RSN_AT};
+use super::wire::Wire;
 use crate::engine::sheet::Sheet;
 use std::collections::BTreeMap;
 use std::fmt;
@@ -74,7 +75,8 @@ impl Failures {
                 return;
             }
         };
-        if let Some(cause) = cause(before, inputs.command[1]) {
+        let wdt = inputs.command[Wire::of_sheet(&inputs.sheet).wdt];
+        if let Some(cause) = cause(before, wdt) {
             causes[cause] += 1;
         }
         if let Ok(sheet) = Sheet::read(&inputs.sheet) {

@@ -8,17 +8,19 @@ use crate::engine::sheet::Parameter;
 const ADDRESSES: u64 = 1 << 32;
 const MEMORY_LIMIT: u64 = 65_536;
 
-/// A good sheet of any L with any number of records.
+/// A good sheet of either type and any L with any number of records.
 pub fn random_plan(random: &mut Random) -> Plan {
     let mut plan = Plan {
-        pdu_length: random.pick(&LENGTHS),
         version: random.octet(),
         profile: random.octet(),
         regions: regions(random),
-        parameters: Vec::new(),
         items: items(random),
         tolerance: tolerance(random),
+        ..Plan::bare(random.pick(&LENGTHS))
     };
+    if random.chance(30) {
+        plan = plan.in_short();
+    }
     plan.parameters = parameters(random, &plan);
     plan
 }
@@ -169,12 +171,14 @@ mod tests {
     }
 
     #[test]
-    fn random_plans_have_every_tolerance_and_none() {
+    fn random_plans_of_both_types_have_every_tolerance_and_none() {
         let mut seen = std::collections::BTreeSet::new();
         for seed in 0..300 {
-            seen.insert(random_plan(&mut Random::new(seed)).tolerance);
+            let plan = random_plan(&mut Random::new(seed));
+            seen.insert((plan.wire.link_kind, plan.tolerance));
         }
         let all = [None, Some(0), Some(1), Some(2), Some(3)];
-        assert!(seen.into_iter().eq(all));
+        let both = [1, 5].map(|kind| all.map(|tolerance| (kind, tolerance)));
+        assert!(seen.into_iter().eq(both.concat()));
     }
 }

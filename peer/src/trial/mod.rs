@@ -9,6 +9,7 @@ pub mod engines;
 pub mod failures;
 pub mod guarded;
 pub mod layout;
+pub mod links;
 pub mod places;
 pub mod plan;
 pub mod probe;
@@ -24,6 +25,8 @@ pub mod side;
 pub mod states;
 pub mod tally;
 pub mod turned;
+pub mod typed;
+pub mod wire;
 
 use probe::Outcome;
 use rig::Rig;

@@ -1,23 +1,25 @@
 //! Counts of the places that refused commands were told (request 3).
 
-use super::commands::CODES;
-use super::tally::NAMES;
+use super::typed::codes_of;
+use super::wire::Wire;
 use std::collections::BTreeMap;
 use std::fmt;
 
 const ALARM_DATA: u8 = 9;
 const ALARM_RIGHTS: u8 = 10;
 
-/// Refused commands by code, alarm and place.
-#[derive(Default)]
+/// Refused commands of one type by code, alarm and place.
 pub struct Places {
+    wire: &'static Wire,
     counts: BTreeMap<(u8, u8, u64), u64>,
 }
 
-/// The places of alarm 9, where a field that failed begins.
-fn data_places(code: u8) -> &'static [u64] {
+/// The places of alarm 9, where a field that failed begins; L 8 and a profile are the enhanced type's.
+fn data_places(wire: &Wire, code: u8) -> &'static [u64] {
     match code {
         0x01..=0x03 => &[4, 6],
+        0x05 if !wire.has_memory => &[4],
+        0x0E if !wire.names_profile => &[4, 5, 6],
         0x05 => &[0, 4],
         0x06 => &[4],
         0x0E => &[4, 5, 6, 7],
@@ -32,6 +34,13 @@ fn has_span(code: u8) -> bool {
 }
 
 impl Places {
+    pub fn new(wire: &'static Wire) -> Places {
+        Places {
+            wire,
+            counts: BTreeMap::new(),
+        }
+    }
+
     /// Counts a built reply; an accepted command and a lost cycle have no alarm.
     pub fn add(&mut self, code: u8, alarm: u8, place: u64) {
         if alarm != 0 {
@@ -58,8 +67,8 @@ impl Places {
     /// The rows of the table of places that no refused command has given yet.
     pub fn gaps(&self) -> Vec<String> {
         let mut gaps = Vec::new();
-        for (&code, name) in CODES.iter().zip(NAMES) {
-            for &place in data_places(code) {
+        for (code, name) in codes_of(self.wire) {
+            for &place in data_places(self.wire, code) {
                 if self.count(code, ALARM_DATA, place) == 0 {
                     gaps.push(format!("{name} with alarm 9 at place {place}"));
                 }
@@ -77,8 +86,8 @@ impl Places {
 
 impl fmt::Display for Places {
     fn fmt(&self, formatter: &mut fmt::Formatter) -> fmt::Result {
-        for (&code, name) in CODES.iter().zip(NAMES) {
-            for &place in data_places(code) {
+        for (code, name) in codes_of(self.wire) {
+            for &place in data_places(self.wire, code) {
                 let count = self.count(code, ALARM_DATA, place);
                 writeln!(formatter, "{name} with alarm 9 at place {place}: {count}")?;
             }
@@ -98,10 +107,12 @@ impl fmt::Display for Places {
 #[cfg(test)]
 mod tests {
     use super::*;
+    use crate::trial::wire::{ENHANCED, SHORT};
 
     #[test]
     fn each_row_is_missed_until_it_is_given() {
-        let mut places = Places::default();
+        assert_eq!(Places::new(&SHORT).gaps().len(), 3 * 2 + 1 + 1 + 3 + 2 * 2);
+        let mut places = Places::new(&ENHANCED);
         let rows = places.gaps().len();
         assert_eq!(rows, 3 * 2 + 2 + 1 + 4 + 2 * 3 + 4 * 2);
         // Neither an accepted command nor a place that is no row's counts.

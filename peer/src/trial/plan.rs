@@ -1,5 +1,6 @@
 //! A sheet as a plan of records, from which octets are written.
 
+use super::wire::{Wire, ENHANCED, SHORT};
 use crate::engine::region::Region;
 use crate::engine::sheet::{Parameter, Sheet};
 
@@ -16,6 +17,8 @@ pub struct Item {
 /// The records of a sheet, good or bad.
 #[derive(Clone, Debug, PartialEq, Eq)]
 pub struct Plan {
+    /// The PDU type that its first record selects.
+    pub wire: &'static Wire,
     pub pdu_length: u8,
     pub version: u8,
     pub profile: u8,
@@ -30,6 +33,7 @@ impl Plan {
     /// A plan of a link record only.
     pub fn bare(pdu_length: u8) -> Plan {
         Plan {
+            wire: &ENHANCED,
             pdu_length,
             version: 0x30,
             profile: 0x05,
@@ -40,10 +44,20 @@ impl Plan {
         }
     }
 
+    /// The same records for the short type, whose L is 16.
+    pub fn in_short(self) -> Plan {
+        Plan {
+            wire: &SHORT,
+            pdu_length: 16,
+            ..self
+        }
+    }
+
     /// The plan of a good sheet.
     pub fn read(octets: &[u8]) -> Option<Plan> {
         let sheet = Sheet::read(octets).ok()?;
         Some(Plan {
+            wire: Wire::of_sheet(octets),
             pdu_length: sheet.pdu_length(),
             version: sheet.version(),
             profile: sheet.profile(),
@@ -60,9 +74,18 @@ impl Plan {
         })
     }
 
+    pub fn link_record(&self) -> Vec<u8> {
+        vec![
+            self.wire.link_kind,
+            self.pdu_length,
+            self.version,
+            self.profile,
+        ]
+    }
+
     /// The records one by one, the end included.
     pub fn records(&self) -> Vec<Vec<u8>> {
-        let mut records = vec![vec![1, self.pdu_length, self.version, self.profile]];
+        let mut records = vec![self.link_record()];
         records.extend(self.regions.iter().map(region_record));
         records.extend(self.parameters.iter().map(parameter_record));
         records.extend(self.items.iter().map(item_record));
@@ -95,6 +118,13 @@ impl Plan {
         }
         runs
     }
+}
+
+/// The plan of each L of the enhanced type, and that of the short type.
+pub fn each_type(plan: impl Fn(u8) -> Plan) -> Vec<Plan> {
+    let mut plans: Vec<Plan> = LENGTHS.iter().map(|&length| plan(length)).collect();
+    plans.push(plan(16).in_short());
+    plans
 }
 
 pub fn region_record(region: &Region) -> Vec<u8> {

@@ -35,7 +35,7 @@ fn old_octet(octet: u8) -> u8 {
 
 /// One exchange with the WDT that the state asks for.
 pub fn exchange_in_step(rig: &mut Rig, mut command: Vec<u8>) -> Outcome {
-    build::follow(&mut command, &rig.inputs.state);
+    build::follow(rig.wire(), &mut command, &rig.inputs.state);
     exchange(rig, &command)
 }
 
@@ -46,13 +46,28 @@ pub fn exchange_from(rig: &mut Rig, state: &[u8], command: &[u8]) -> Outcome {
     exchange(rig, command)
 }
 
+/// The same, and the reply, state and memory that it leaves.
+pub fn left_from(
+    rig: &mut Rig,
+    state: &[u8],
+    command: &[u8],
+) -> Result<[Vec<u8>; 3], Box<Difference>> {
+    exchange_from(rig, state, command)?;
+    let inputs = &rig.inputs;
+    Ok([
+        rig.reply().to_vec(),
+        inputs.state.clone(),
+        inputs.memory.clone(),
+    ])
+}
+
 /// The same, and both engines have to tell this alarm and place.
 pub fn expect_told(rig: &mut Rig, state: &[u8], command: &[u8], told: Told) -> Outcome {
     rig.inputs.state = state.to_vec();
     rig.inputs.memory = build::distinct_octets(rig.inputs.memory.len());
     lend_command(rig, command);
     rig.expect(Call::Exchange, told.1 << 32)?;
-    if rig.reply()[3] & 15 == told.0 {
+    if rig.alarm() == told.0 {
         return Ok(());
     }
     Err(unexpected(rig, state, "the alarm expected"))
@@ -61,7 +76,7 @@ pub fn expect_told(rig: &mut Rig, state: &[u8], command: &[u8], told: Told) -> O
 /// The same with the WDT that the state asks for.
 pub fn expect_told_in_step(rig: &mut Rig, state: &[u8], command: &[u8], told: Told) -> Outcome {
     let mut command = command.to_vec();
-    build::follow(&mut command, state);
+    build::follow(rig.wire(), &mut command, state);
     expect_told(rig, state, &command, told)
 }
 

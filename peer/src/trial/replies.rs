@@ -43,6 +43,18 @@ impl Replies {
         }
     }
 
+    /// Adds the counts of another code.
+    pub fn add_all(&mut self, other: &Replies) {
+        for (sum, count) in self.accepted.iter_mut().zip(other.accepted) {
+            *sum += count;
+        }
+        for (sum, count) in self.alarms.iter_mut().zip(other.alarms) {
+            *sum += count;
+        }
+        self.lost_cycles += other.lost_cycles;
+        self.tolerated += other.tolerated;
+    }
+
     /// What of these links and alarms, of a lost and of a tolerated cycle, has not been given yet.
     pub fn gaps(&self, name: &str, links: &[u8], alarms: &[usize]) -> Vec<String> {
         let mut gaps = Vec::new();

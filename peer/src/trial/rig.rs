@@ -7,6 +7,7 @@ use super::progress::Progress;
 use super::report::Difference;
 use super::side::Side;
 use super::tally::Tally;
+use super::wire::Wire;
 use std::ptr::null_mut;
 use std::sync::atomic::{AtomicPtr, Ordering};
 
@@ -87,6 +88,16 @@ impl Rig {
     /// The reply that both engines left in the call that was made last.
     pub fn reply(&self) -> &[u8] {
         self.ours.reply.lend()
+    }
+
+    /// The type of the sheet that is lent.
+    pub fn wire(&self) -> &'static Wire {
+        Wire::of_sheet(&self.inputs.sheet)
+    }
+
+    /// The command's alarm in that reply.
+    pub fn alarm(&self) -> u8 {
+        self.wire().alarm(self.reply())
     }
 
     fn disagreement(&self) -> Option<&'static str> {

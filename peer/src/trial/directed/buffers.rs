@@ -3,7 +3,7 @@
 
 use crate::trial::build::{connect, distinct_octets};
 use crate::trial::call::Call;
-use crate::trial::plan::{Plan, LENGTHS};
+use crate::trial::plan::{each_type, Plan};
 use crate::trial::probe::Outcome;
 use crate::trial::rig::Rig;
 use crate::trial::samples::both_ends;
@@ -11,8 +11,8 @@ use crate::trial::states::{old_of, plain_state, ASYNC, DISABLED, DISCONNECTED};
 
 pub fn run(rig: &mut Rig) -> Outcome {
     rig.origin = "directed: buffers of wrong length".to_string();
-    for length in LENGTHS {
-        combinations(rig, &both_ends(length))?;
+    for plan in each_type(both_ends) {
+        combinations(rig, &plan)?;
     }
     combinations(rig, &Plan::bare(8))?;
     combinations(rig, &Plan::bare(64))
@@ -48,7 +48,7 @@ fn combinations(rig: &mut Rig, plan: &Plan) -> Outcome {
 }
 
 fn replay_with(rig: &mut Rig, state: &[u8], memory: usize) -> Outcome {
-    for trace in [&[][..], &[0x20], &[0x21], &[0x25]] {
+    for trace in [&[][..], &[0x20], &[0x21], &[0x22], &[0x25]] {
         rig.inputs.state = state.to_vec();
         rig.inputs.memory = distinct_octets(memory);
         rig.inputs.trace = trace.to_vec();

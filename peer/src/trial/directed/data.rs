@@ -2,24 +2,30 @@
 
 use crate::engine::memory_mode;
 use crate::trial::build;
-use crate::trial::plan::{item, parameter, region, Plan, LENGTHS};
+use crate::trial::plan::{each_type, item, parameter, region, Plan, LENGTHS};
 use crate::trial::probe::{exchange_from, take_plan, Outcome};
 use crate::trial::rig::Rig;
 use crate::trial::samples::both_ends;
 use crate::trial::states::{counting_state, plain_state, ASYNC};
 
 pub fn run(rig: &mut Rig) -> Outcome {
-    for length in LENGTHS {
+    for plan in each_type(parameter_plan) {
         rig.origin = "directed: parameter commands".to_string();
-        parameters(rig, &parameter_plan(length))?;
+        parameters(rig, &plan)?;
+    }
+    for plan in each_type(item_plan) {
         rig.origin = "directed: ID_RD".to_string();
-        identities(rig, &item_plan(length))?;
+        identities(rig, &plan)?;
+    }
+    for length in LENGTHS {
         rig.origin = "directed: modes of memory commands".to_string();
         memory_modes(rig, &both_ends(length))?;
         rig.origin = "directed: counts and addresses of memory commands".to_string();
         memory_spans(rig, &both_ends(length))?;
+    }
+    for bare in each_type(Plan::bare) {
         rig.origin = "directed: rights along a span".to_string();
-        rights_along_spans(rig, length)?;
+        rights_along_spans(rig, &bare)?;
     }
     Ok(())
 }
@@ -29,7 +35,7 @@ fn in_both_links(rig: &mut Rig, plan: &Plan, command: &[u8]) -> Outcome {
     exchange_from(rig, &plain_state(plan.pdu_length, ASYNC), command)?;
     let state = counting_state(plan.pdu_length, 3, 3);
     let mut command = command.to_vec();
-    build::follow(&mut command, &state);
+    build::follow(plan.wire, &mut command, &state);
     exchange_from(rig, &state, &command)
 }
 
@@ -142,9 +148,9 @@ fn memory_spans(rig: &mut Rig, plan: &Plan) -> Outcome {
 
 /// Three adjacent regions with every combination of rights: of each span the
 /// first, the middle or the last part may lack the right.
-fn rights_along_spans(rig: &mut Rig, pdu_length: u8) -> Outcome {
+fn rights_along_spans(rig: &mut Rig, bare: &Plan) -> Outcome {
     for rights in 0..512u64 {
-        let mut plan = Plan::bare(pdu_length);
+        let mut plan = bare.clone();
         for part in 0..3 {
             let part_rights = (rights >> (3 * part)) as u8 & 7;
             plan.regions.push(region(0x10 + 2 * part, 2, part_rights));

@@ -4,7 +4,7 @@ use super::failures::{wrong_wdt, TOLERANCES};
 use crate::engine::memory_mode;
 use crate::trial::build;
 use crate::trial::call::Call;
-use crate::trial::plan::{Plan, LENGTHS};
+use crate::trial::plan::{each_type, Plan};
 use crate::trial::probe::{take_plan, Outcome};
 use crate::trial::recorder::Recorder;
 use crate::trial::rig::Rig;
@@ -16,9 +16,8 @@ const DIFFERENT: u64 = 34;
 
 pub fn run(rig: &mut Rig) -> Outcome {
     rig.origin = "directed: failures in a replay".to_string();
-    for length in LENGTHS {
-        for tolerance in TOLERANCES {
-            let plan = tolerant(length, tolerance);
+    for tolerance in TOLERANCES {
+        for plan in each_type(|length| tolerant(length, tolerance)) {
             take_plan(rig, &plan);
             replays(rig, &plan)?;
             counts(rig, &plan)?;
@@ -32,14 +31,18 @@ fn record(plan: &Plan) -> Recorder {
     let memory = build::distinct_octets(plan.memory_length());
     let state = failing_state(plan.pdu_length, 3, 9, 0);
     let mut recorder = Recorder::new(&state, &memory);
-    let write = build::memory(plan, 0x1E, memory_mode::octet(1), 3, 1);
+    let write = if plan.wire.has_memory {
+        build::memory(plan, 0x1E, memory_mode::octet(1), 3, 1)
+    } else {
+        build::parameter(plan, 0x02, 0x0007, 3)
+    };
     let allowed = usize::from(plan.allowed());
     let failing = [vec![true; allowed], vec![false], vec![true; allowed + 1]];
     for failing in failing.concat() {
         let mut command = write.clone();
-        build::follow(&mut command, recorder.current_state());
+        build::follow(plan.wire, &mut command, recorder.current_state());
         if failing {
-            command[1] = wrong_wdt(recorder.current_state(), (0, 3));
+            command[plan.wire.wdt] = wrong_wdt(recorder.current_state(), (0, 3));
         }
         recorder.record(&plan.octets(), &command);
     }
@@ -65,7 +68,7 @@ fn replays(rig: &mut Rig, plan: &Plan) -> Outcome {
         // A failing record that passes, or the other way about.
         for flip in [0x01, 0x10, 0x30, 0x31] {
             recorder.lend_to(&mut rig.inputs);
-            rig.inputs.trace[start + 1] ^= flip;
+            rig.inputs.trace[start + plan.wire.wdt] ^= flip;
             rig.call(Call::Replay)?;
         }
     }
@@ -79,8 +82,9 @@ fn counts(rig: &mut Rig, plan: &Plan) -> Outcome {
         recorder.lend_to(&mut rig.inputs);
         rig.inputs.state[FAILURES_AT] = failures;
         let allowed = plan.allowed();
-        // From here on a record's RWDT is told, as its link is 2.
-        let early = u64::from(allowed.wrapping_sub(failures)) * 64 + 1;
+        // From here on a record's RWDT is another, as its link is 2; its status before it, if that comes first.
+        let octet = plan.wire.wdt.min(2) as u64;
+        let early = u64::from(allowed.wrapping_sub(failures)) * 64 + octet;
         let answer = match failures {
             0 => recorder.records << 32,
             _ if failures > allowed => BAD_STATE,

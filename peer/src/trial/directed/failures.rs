@@ -4,7 +4,7 @@
 use crate::engine::memory_mode;
 use crate::trial::build;
 use crate::trial::call::Call;
-use crate::trial::plan::{Plan, LENGTHS};
+use crate::trial::plan::{each_type, Plan};
 use crate::trial::probe::{exchange, exchange_in_step, take_plan, unexpected, Outcome};
 use crate::trial::rig::Rig;
 use crate::trial::samples::tolerant;
@@ -18,9 +18,8 @@ const WRONG: [Wrong; 5] = [(1, 0), (15, 0), (0, 1), (0, 15), (5, 9)];
 const BAD_STATE: u64 = 1;
 
 pub fn run(rig: &mut Rig) -> Outcome {
-    for length in LENGTHS {
-        for tolerance in TOLERANCES {
-            let plan = tolerant(length, tolerance);
+    for tolerance in TOLERANCES {
+        for plan in each_type(|length| tolerant(length, tolerance)) {
             take_plan(rig, &plan);
             rig.origin = "directed: failures at and past what is allowed".to_string();
             every_count(rig, &plan)?;
@@ -29,8 +28,10 @@ pub fn run(rig: &mut Rig) -> Outcome {
             rig.origin = "directed: exchanges that pass between failures".to_string();
             passing(rig, &plan)?;
         }
-        rig.origin = "directed: every code in a failure that is allowed".to_string();
-        every_code(rig, &tolerant(length, Some(2)))?;
+    }
+    rig.origin = "directed: every code in a failure that is allowed".to_string();
+    for plan in each_type(|length| tolerant(length, Some(2))) {
+        every_code(rig, &plan)?;
     }
     rig.origin = "directed: every WDT beside a count".to_string();
     every_wdt(rig, &tolerant(8, Some(3)))
@@ -44,21 +45,22 @@ pub fn wrong_wdt(state: &[u8], wrong: Wrong) -> u8 {
 
 /// State and reply that a command which fails check 1 has to leave.
 fn left(plan: &Plan, state: &[u8], command: &[u8]) -> (Vec<u8>, Vec<u8>) {
-    let mn = command[1] & 15;
+    let wdt = plan.wire.wdt;
+    let mn = command[wdt] & 15;
     let (mut after, mut reply) = (state.to_vec(), vec![0; command.len()]);
     let mut status = 5;
     if state[FAILURES_AT] < plan.allowed() {
         after[LAST_MN_AT] = mn;
         after[RSN_AT] = (state[RSN_AT] + 1) & 15;
         after[FAILURES_AT] += 1;
-        reply[1] = after[RSN_AT] << 4 | mn;
+        reply[wdt] = after[RSN_AT] << 4 | mn;
         status = 6 | u8::from(state[8] != 0 || state[9] != 0);
     } else {
         let (length, com_time) = (state[2], state[4]);
         after = vec![KIND, ASYNC, length, 0, com_time, 0, 0, 0, state[8], 12, 0];
     }
     reply[0] = command[0];
-    reply[2] = status | command[2] & 0xC0;
+    reply[2] = status | command[2] & plan.wire.identity;
     reply[3] = after[9] << 4;
     (after, reply)
 }
@@ -67,7 +69,7 @@ fn left(plan: &Plan, state: &[u8], command: &[u8]) -> (Vec<u8>, Vec<u8>) {
 fn expect_failure(rig: &mut Rig, plan: &Plan, command: &[u8], wrong: Wrong) -> Outcome {
     let (state, memory) = (rig.inputs.state.clone(), rig.inputs.memory.clone());
     let mut command = command.to_vec();
-    command[1] = wrong_wdt(&state, wrong);
+    command[plan.wire.wdt] = wrong_wdt(&state, wrong);
     let old = vec![0x5C; command.len()];
     rig.inputs.reply = old.clone();
     let past = state[FAILURES_AT] > plan.allowed();

@@ -1,11 +1,12 @@
 //! Request 1: the identity in bits 6 and 7 of octet 2 comes back in every built
-//! reply, and no other bit of octets 2 and 3 changes anything.
+//! reply, and no other bit of octets 2 and 3 changes anything. In the short type
+//! those two do not come back either (request 7).
 
 use crate::engine::memory_mode;
 use crate::trial::build;
 use crate::trial::call::Call;
-use crate::trial::plan::{Plan, LENGTHS};
-use crate::trial::probe::{exchange_from, take_plan, unexpected, Outcome};
+use crate::trial::plan::{each_type, Plan};
+use crate::trial::probe::{left_from, take_plan, unexpected, Outcome};
 use crate::trial::recorder::Recorder;
 use crate::trial::report::Difference;
 use crate::trial::rig::Rig;
@@ -13,15 +14,13 @@ use crate::trial::samples::tolerant;
 use crate::trial::states::{counting_state, plain_state, ASYNC, DISCONNECTED};
 
 const IDENTITIES: [u8; 4] = [0x00, 0x40, 0x80, 0xC0];
-const IDENTITY: u8 = 0xC0;
 const DIFFERENT: u64 = 34;
 /// The last MN of the states that count.
 const LAST_MN: u8 = 3;
 
 pub fn run(rig: &mut Rig) -> Outcome {
-    for length in LENGTHS {
-        for tolerance in [None, Some(1)] {
-            let plan = tolerant(length, tolerance);
+    for tolerance in [None, Some(1)] {
+        for plan in each_type(|length| tolerant(length, tolerance)) {
             take_plan(rig, &plan);
             for (state, command) in situations(&plan) {
                 rig.origin = "directed: every identity".to_string();
@@ -53,8 +52,8 @@ fn situations(plan: &Plan) -> Vec<(Vec<u8>, Vec<u8>)> {
         // In step, and failing by MN and by SN.
         for wrong in [0x00, 0x01, 0x10] {
             let mut command = command.clone();
-            build::follow(&mut command, &counting);
-            command[1] ^= wrong;
+            build::follow(plan.wire, &mut command, &counting);
+            command[plan.wire.wdt] ^= wrong;
             situations.push((counting.clone(), command));
         }
     }
@@ -84,7 +83,7 @@ fn single_bits(rig: &mut Rig, state: &[u8], command: &[u8]) -> Outcome {
 /// What these octets 2 and 3 give is what zeros give, but for the identity.
 fn echoes(rig: &mut Rig, state: &[u8], command: &[u8], control: [u8; 2]) -> Outcome {
     let mut expected = left(rig, state, command, [0, 0])?;
-    expected[0][2] |= control[0] & IDENTITY;
+    expected[0][2] |= control[0] & rig.wire().identity;
     if left(rig, state, command, control)? == expected {
         return Ok(());
     }
@@ -100,13 +99,7 @@ fn left(
 ) -> Result<[Vec<u8>; 3], Box<Difference>> {
     let mut command = command.to_vec();
     command[2..4].copy_from_slice(&control);
-    exchange_from(rig, state, &command)?;
-    let inputs = &rig.inputs;
-    Ok([
-        rig.reply().to_vec(),
-        inputs.state.clone(),
-        inputs.memory.clone(),
-    ])
+    left_from(rig, state, &command)
 }
 
 /// An accepted, a refused and a failing exchange of one identity.
@@ -116,8 +109,8 @@ fn record(plan: &Plan, identity: u8) -> Recorder {
     let mut recorder = Recorder::new(&state, &memory);
     for (code, wrong) in [(0x00, 0x00), (0x77, 0x00), (0x00, 0x10)] {
         let mut command = build::command(plan, code);
-        build::follow(&mut command, recorder.current_state());
-        command[1] ^= wrong;
+        build::follow(plan.wire, &mut command, recorder.current_state());
+        command[plan.wire.wdt] ^= wrong;
         command[2] = identity;
         recorder.record(&plan.octets(), &command);
     }
@@ -133,7 +126,7 @@ fn replays(rig: &mut Rig, plan: &Plan) -> Outcome {
             for flipped in [0xC0, 0x80, 0x40, 0x20, 0x10, 8, 4, 2, 1, 0] {
                 recorder.lend_to(&mut rig.inputs);
                 rig.inputs.trace[index as usize * record_length + 1 + 2] ^= flipped;
-                let answer = if flipped & IDENTITY == 0 {
+                let answer = if flipped & plan.wire.identity == 0 {
                     recorder.records << 32
                 } else {
                     DIFFERENT | (index * 64 + 2) << 32

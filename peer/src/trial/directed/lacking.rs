@@ -4,7 +4,7 @@
 use crate::engine::memory_mode;
 use crate::engine::region::{READ, WRITE_ASYNC, WRITE_SYNC};
 use crate::trial::build;
-use crate::trial::plan::{parameter, region, Plan, LENGTHS};
+use crate::trial::plan::{each_type, parameter, region, Plan};
 use crate::trial::probe::{expect_told_in_step, take_plan, Outcome, Told};
 use crate::trial::rig::Rig;
 use crate::trial::states::{counting_state, plain_state, ASYNC};
@@ -18,12 +18,15 @@ const MOST_REGIONS: usize = 32;
 /// At L 8 no span has room.
 pub fn run(rig: &mut Rig) -> Outcome {
     rig.origin = "directed: the first octet without the right".to_string();
-    for length in &LENGTHS[1..] {
-        for octets in sizes(length - 8) {
-            spans(rig, *length, octets)?;
+    for bare in &each_type(Plan::bare)[1..] {
+        for octets in sizes(bare.pdu_length - 8) {
+            spans(rig, bare, octets)?;
         }
-        for octets in sizes(length - 12) {
-            spans(rig, *length, octets)?;
+        if !bare.wire.has_memory {
+            continue;
+        }
+        for octets in sizes(bare.pdu_length - 12) {
+            spans(rig, bare, octets)?;
         }
     }
     Ok(())
@@ -37,21 +40,21 @@ fn sizes(most: u8) -> Vec<usize> {
 }
 
 /// Each octet of the span the first that lacks a right, and none, one or all behind it lacking it too.
-fn spans(rig: &mut Rig, pdu_length: u8, octets: usize) -> Outcome {
+fn spans(rig: &mut Rig, bare: &Plan, octets: usize) -> Outcome {
     for right in [READ, WRITE_ASYNC, WRITE_SYNC] {
         for first in 0..octets {
             let mut rights = vec![ALL; octets];
             rights[first] = ALL - right;
-            every_layout(rig, pdu_length, &rights)?;
+            every_layout(rig, bare, &rights)?;
             for second in [first + 1, first + 2, octets - 1] {
                 if first < second && second < octets {
                     let mut rights = rights.clone();
                     rights[second] = 0;
-                    every_layout(rig, pdu_length, &rights)?;
+                    every_layout(rig, bare, &rights)?;
                 }
             }
             rights[first..].fill(ALL - right);
-            every_layout(rig, pdu_length, &rights)?;
+            every_layout(rig, bare, &rights)?;
         }
     }
     Ok(())
@@ -59,12 +62,12 @@ fn spans(rig: &mut Rig, pdu_length: u8, octets: usize) -> Outcome {
 
 /// As few regions as can be and as many, with an octet before and behind the
 /// span, anywhere and up to the last address.
-fn every_layout(rig: &mut Rig, pdu_length: u8, rights: &[u8]) -> Outcome {
+fn every_layout(rig: &mut Rig, bare: &Plan, rights: &[u8]) -> Outcome {
     let octets = rights.len() as u64;
     let around = [&rights[..1], rights, &rights[rights.len() - 1..]].concat();
     for start in [0x1000, ADDRESSES - octets - 1] {
         for merged in [true, false] {
-            let mut plan = Plan::bare(pdu_length);
+            let mut plan = bare.clone();
             for (at, &octet) in around.iter().enumerate() {
                 let left = around.len() - at;
                 let full = plan.regions.len() + left > MOST_REGIONS;
@@ -109,7 +112,11 @@ fn commands(plan: &Plan, start: u64, octets: usize, write: u8) -> Vec<(Vec<u8>, 
         let command = build::parameter(plan, code, NUMBER, octets as u8);
         commands.push((command, right));
     }
-    let room = usize::from(plan.pdu_length) - 12;
+    let room = if plan.wire.has_memory {
+        usize::from(plan.pdu_length) - 12
+    } else {
+        0
+    };
     for (element_code, element) in [(1, 1), (2, 2), (3, 4)] {
         if octets <= room && octets % element == 0 {
             for (code, right) in [(0x1D, READ), (0x1E, write)] {

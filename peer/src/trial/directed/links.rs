@@ -1,15 +1,14 @@
 //! Codes in every link, and CONNECT with every mode.
 
 use crate::trial::build;
-use crate::trial::plan::{Plan, LENGTHS};
+use crate::trial::plan::{each_type, Plan};
 use crate::trial::probe::{exchange_from, take_plan, Outcome};
 use crate::trial::rig::Rig;
 use crate::trial::samples::both_ends;
 use crate::trial::states::{counting_state, plain_state, ASYNC, DISCONNECTED, KIND, SYNC};
 
 pub fn run(rig: &mut Rig) -> Outcome {
-    for length in LENGTHS {
-        let plan = both_ends(length);
+    for plan in each_type(both_ends) {
         take_plan(rig, &plan);
         rig.origin = "directed: every code in every link".to_string();
         every_code(rig, &plan)?;
@@ -53,7 +52,7 @@ fn every_code(rig: &mut Rig, plan: &Plan) -> Outcome {
                 let mut command = vec![body; usize::from(plan.pdu_length)];
                 command[0] = code;
                 exchange_from(rig, &state, &command)?;
-                build::follow(&mut command, &state);
+                build::follow(plan.wire, &mut command, &state);
                 exchange_from(rig, &state, &command)?;
             }
         }

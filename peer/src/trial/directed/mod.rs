@@ -7,10 +7,12 @@ mod failures;
 mod identities;
 mod lacking;
 mod limits;
+mod link_records;
 mod links;
 mod octets;
 mod parameters;
 mod places;
+mod reserves;
 mod sheets;
 mod states;
 mod tolerances;
@@ -24,6 +26,7 @@ use super::rig::Rig;
 
 /// All directed trials.
 pub fn run(rig: &mut Rig) -> Outcome {
+    link_records::run(rig)?;
     buffers::run(rig)?;
     states::run(rig)?;
     turns::run(rig)?;
@@ -34,6 +37,7 @@ pub fn run(rig: &mut Rig) -> Outcome {
     parameters::run(rig)?;
     data::run(rig)?;
     octets::run(rig)?;
+    reserves::run(rig)?;
     places::run(rig)?;
     wrong::run(rig)?;
     lacking::run(rig)?;

@@ -13,21 +13,22 @@ const HEAD: usize = 16;
 
 pub fn run(rig: &mut Rig) -> Outcome {
     rig.origin = "directed: every octet of a command with every value".to_string();
-    for length in [8, 16, 64] {
-        let plan = both_ends(length);
+    let enhanced = [8, 16, 64].map(both_ends);
+    for plan in enhanced.into_iter().chain([both_ends(16).in_short()]) {
         take_plan(rig, &plan);
         for command in accepted(&plan) {
             every_octet(rig, &first_state(&plan, command[0]), &command)?;
-            every_octet(rig, &latched(counting_state(length, 0, 0)), &command)?;
+            let counting = counting_state(plan.pdu_length, 0, 0);
+            every_octet(rig, &latched(counting), &command)?;
         }
     }
     Ok(())
 }
 
-/// One command of each code that some link takes, where L has room for it.
-fn accepted(plan: &Plan) -> Vec<Vec<u8>> {
+/// One command of each code that some link takes, where L has room for it and the type has it.
+pub fn accepted(plan: &Plan) -> Vec<Vec<u8>> {
     let [octets, words] = [1, 2].map(memory_mode::octet);
-    vec![
+    let mut commands = vec![
         build::command(plan, 0x00),
         build::parameter(plan, 0x01, 0x0107, 8),
         build::parameter(plan, 0x02, 0x0107, 8),
@@ -39,11 +40,13 @@ fn accepted(plan: &Plan) -> Vec<Vec<u8>> {
         build::command(plan, 0x0F),
         build::memory(plan, 0x1D, octets, 3, 1),
         build::memory(plan, 0x1E, words, 2, 6),
-    ]
+    ];
+    commands.retain(|command| plan.wire.knows(command[0]));
+    commands
 }
 
 /// CONNECT is taken in link 1 alone.
-fn first_state(plan: &Plan, code: u8) -> Vec<u8> {
+pub fn first_state(plan: &Plan, code: u8) -> Vec<u8> {
     let link = if code == 0x0E { DISCONNECTED } else { ASYNC };
     latched(plain_state(plan.pdu_length, link))
 }
@@ -55,7 +58,7 @@ fn latched(mut state: Vec<u8>) -> Vec<u8> {
 
 fn every_octet(rig: &mut Rig, state: &[u8], command: &[u8]) -> Outcome {
     let mut command = command.to_vec();
-    build::follow(&mut command, state);
+    build::follow(rig.wire(), &mut command, state);
     for at in 0..command.len().min(HEAD) {
         for octet in 0..=255 {
             let mut changed = command.clone();

@@ -5,7 +5,7 @@ use crate::engine::region::{Region, READ, WRITE_ASYNC, WRITE_SYNC};
 use crate::engine::sheet::Parameter;
 use crate::trial::build;
 use crate::trial::call::Call;
-use crate::trial::plan::{parameter, region, Plan, LENGTHS};
+use crate::trial::plan::{each_type, parameter, region, Plan};
 use crate::trial::probe::{exchange_from, judge_sheet_briefly, take_plan, unexpected, Outcome};
 use crate::trial::rig::Rig;
 use crate::trial::states::{counting_state, plain_state, ASYNC};
@@ -18,15 +18,15 @@ const ALARM_RIGHTS: u8 = 10;
 const SPAN_FAULT: u64 = 17;
 
 pub fn run(rig: &mut Rig) -> Outcome {
-    for length in LENGTHS {
+    for bare in each_type(Plan::bare) {
         rig.origin = "directed: rights of parameters".to_string();
-        for size in sizes(length) {
-            missing_rights(rig, length, size)?;
-            data_before_rights(rig, length, size)?;
+        for size in sizes(bare.pdu_length) {
+            missing_rights(rig, &bare, size)?;
+            data_before_rights(rig, &bare, size)?;
         }
         rig.origin = "directed: parameters at the ends of what is mapped".to_string();
-        for size in sizes(length) {
-            mapped_ends(rig, length, size)?;
+        for size in sizes(bare.pdu_length) {
+            mapped_ends(rig, &bare, size)?;
         }
     }
     Ok(())
@@ -61,9 +61,9 @@ fn uses(pdu_length: u8) -> [(Vec<u8>, u8, u8); 4] {
 
 /// One command on a parameter, which both engines have to give this alarm.
 fn expect_alarm(rig: &mut Rig, state: &[u8], mut command: Vec<u8>, alarm: u8) -> Outcome {
-    build::follow(&mut command, state);
+    build::follow(rig.wire(), &mut command, state);
     exchange_from(rig, state, &command)?;
-    if rig.reply()[3] & 15 == alarm {
+    if rig.alarm() == alarm {
         return Ok(());
     }
     Err(unexpected(rig, state, "the alarm expected"))
@@ -88,12 +88,12 @@ fn expect_rights(rig: &mut Rig, plan: &Plan, rights: u8) -> Outcome {
 
 /// One octet with each of the rights, the others with all: each octet of the
 /// span, and the one before and behind it, which are not asked.
-fn missing_rights(rig: &mut Rig, pdu_length: u8, size: u8) -> Outcome {
+fn missing_rights(rig: &mut Rig, bare: &Plan, size: u8) -> Outcome {
     let end = u64::from(size) + 2;
     for base in [0, 0x1000, ADDRESSES - end] {
         for at in 0..end {
             for rights in 0..ALL {
-                let mut plan = Plan::bare(pdu_length);
+                let mut plan = bare.clone();
                 plan.regions = split(base, end, at, rights);
                 plan.parameters = vec![parameter(NUMBER, base as u32 + 1, size)];
                 take_plan(rig, &plan);
@@ -117,8 +117,8 @@ fn split(base: u64, length: u64, at: u64, rights: u8) -> Vec<Region> {
 }
 
 /// A parameter that no use has the right to: number and size are asked first.
-fn data_before_rights(rig: &mut Rig, pdu_length: u8, size: u8) -> Outcome {
-    let mut plan = Plan::bare(pdu_length);
+fn data_before_rights(rig: &mut Rig, bare: &Plan, size: u8) -> Outcome {
+    let mut plan = bare.clone();
     plan.regions = vec![region(0x40, 64, 0)];
     plan.parameters = vec![parameter(NUMBER, 0x41, size)];
     take_plan(rig, &plan);
@@ -129,7 +129,7 @@ fn data_before_rights(rig: &mut Rig, pdu_length: u8, size: u8) -> Outcome {
         (NUMBER, size - 1),
         (NUMBER, size + 1),
     ];
-    for (state, code, _) in uses(pdu_length) {
+    for (state, code, _) in uses(bare.pdu_length) {
         for (number, size) in beside {
             let command = build::parameter(&plan, code, number, size);
             expect_alarm(rig, &state, command, ALARM_DATA)?;
@@ -158,9 +158,9 @@ fn layouts() -> Vec<Vec<Region>> {
 
 /// Parameters at the first and the last mapped address are used; one octet
 /// before or behind is fault 17.
-fn mapped_ends(rig: &mut Rig, pdu_length: u8, size: u8) -> Outcome {
+fn mapped_ends(rig: &mut Rig, bare: &Plan, size: u8) -> Outcome {
     for regions in layouts() {
-        let mut plan = Plan::bare(pdu_length);
+        let mut plan = bare.clone();
         plan.regions = regions;
         for (start, length) in plan.runs() {
             let octets = u64::from(size);

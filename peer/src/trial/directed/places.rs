@@ -3,7 +3,7 @@
 
 use crate::engine::memory_mode;
 use crate::trial::build;
-use crate::trial::plan::{item, parameter, region, Plan, LENGTHS};
+use crate::trial::plan::{each_type, item, parameter, region, Plan};
 use crate::trial::probe::{expect_told, expect_told_in_step, take_plan, Outcome, Told};
 use crate::trial::rig::Rig;
 use crate::trial::states::{counting_state, plain_state, ASYNC, DISCONNECTED};
@@ -18,8 +18,7 @@ const OCTET_7: Told = (9, 7);
 const OCTET_8: Told = (9, 8);
 
 pub fn run(rig: &mut Rig) -> Outcome {
-    for length in LENGTHS {
-        let plan = plan(length);
+    for plan in each_type(plan) {
         take_plan(rig, &plan);
         rig.origin = "directed: places of parameters".to_string();
         parameters(rig, &plan)?;
@@ -29,10 +28,12 @@ pub fn run(rig: &mut Rig) -> Outcome {
         alarm_modes(rig, &plan)?;
         rig.origin = "directed: places of CONNECT".to_string();
         connects(rig, &plan)?;
-        rig.origin = "directed: places of modes and counts".to_string();
-        modes_and_counts(rig, &plan)?;
-        rig.origin = "directed: places of addresses".to_string();
-        addresses(rig, &plan)?;
+        if plan.wire.has_memory {
+            rig.origin = "directed: places of modes and counts".to_string();
+            modes_and_counts(rig, &plan)?;
+            rig.origin = "directed: places of addresses".to_string();
+            addresses(rig, &plan)?;
+        }
     }
     Ok(())
 }
@@ -90,6 +91,11 @@ fn parameters(rig: &mut Rig, plan: &Plan) -> Outcome {
     Ok(())
 }
 
+/// The bits of a number that the type's field for it has.
+fn named(plan: &Plan) -> u16 {
+    0xFFFF >> (16 - 8 * plan.wire.field_octets)
+}
+
 fn items(rig: &mut Rig, plan: &Plan) -> Outcome {
     let carried = u16::from(carried(plan));
     for item in &plan.items {
@@ -102,7 +108,8 @@ fn items(rig: &mut Rig, plan: &Plan) -> Outcome {
             let beside = [rest.saturating_sub(1), rest, rest + 1, carried, carried + 1];
             let sizes = [0, 1, 0x100, 0x101, 0x100 | rest, 0x8001, 0xFF01, 0xFFFF];
             for size in beside.into_iter().chain(sizes) {
-                let good = size >= 1 && size <= rest && size <= carried;
+                let told_size = size & named(plan);
+                let good = (1..=rest.min(carried)).contains(&told_size);
                 let told = if good { ACCEPTED } else { OCTET_6 };
                 let command = build::identity(plan, item.code, offset as u8, size);
                 expect(rig, plan, &command, told)?;
@@ -112,13 +119,14 @@ fn items(rig: &mut Rig, plan: &Plan) -> Outcome {
     Ok(())
 }
 
-/// Octets 4 and 5 are one field; at L 8 ALM_RD has no room, whatever they hold.
+/// Octets 4 and 5 are one field, or octet 4 alone; at L 8 ALM_RD has no room, whatever they hold.
 fn alarm_modes(rig: &mut Rig, plan: &Plan) -> Outcome {
     let octets = [0, 1, 2, 0x40, 0x80, 0xFF];
     for low in octets {
         for high in octets {
             let mode = high << 8 | low;
-            let clear = if mode == 0 { ACCEPTED } else { OCTET_4 };
+            let good = mode & named(plan) == 0;
+            let clear = if good { ACCEPTED } else { OCTET_4 };
             let read = if plan.pdu_length == 8 { NO_ROOM } else { clear };
             expect(rig, plan, &build::alarm_mode(plan, 0x05, mode), read)?;
             expect(rig, plan, &build::alarm_mode(plan, 0x06, mode), clear)?;
@@ -140,6 +148,7 @@ fn connects(rig: &mut Rig, plan: &Plan) -> Outcome {
                 let fits = match at {
                     5 => [0, 2, 6].contains(&octet),
                     6 => octet >= 2 || octet == 1 && com_mod != 6,
+                    7 if !plan.wire.names_profile => true,
                     _ => octet == good[at],
                 };
                 let told = if fits { ACCEPTED } else { failed };

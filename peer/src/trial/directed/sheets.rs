@@ -1,7 +1,7 @@
 //! Sheets changed octet by octet, cut, and put together from records at will.
 
+use crate::trial::plan::{each_type, tolerance_record, Plan};
 use crate::trial::plan::{item, item_record, parameter, parameter_record, region, region_record};
-use crate::trial::plan::{tolerance_record, Plan, LENGTHS};
 use crate::trial::probe::{judge_sheet, judge_sheet_briefly, Outcome};
 use crate::trial::rig::Rig;
 use crate::trial::samples::{both_ends, largest, sheet_p, tolerant, Spans};
@@ -35,12 +35,17 @@ fn smallest(rig: &mut Rig) -> Outcome {
         judge_sheet(rig, &[octet])?;
         judge_sheet(rig, &[1, octet, 3, 4])?;
         judge_sheet(rig, &[1, octet, 3, 4, 0])?;
+        judge_sheet(rig, &[5, octet, 3, 4])?;
+        judge_sheet(rig, &[5, octet, 3, 4, 0])?;
+        judge_sheet(rig, &[5, 16, 3, 4, octet])?;
         judge_sheet(rig, &[1, 16, 3, 4, octet])?;
         judge_sheet(rig, &[1, 16, 3, 4, 0, octet])?;
     }
-    for length in LENGTHS {
-        judge_sheet(rig, &both_ends(length).octets())?;
-        judge_sheet(rig, &tolerant(length, Some(1)).octets())?;
+    for plan in each_type(both_ends) {
+        judge_sheet(rig, &plan.octets())?;
+    }
+    for plan in each_type(|length| tolerant(length, Some(1))) {
+        judge_sheet(rig, &plan.octets())?;
     }
     Ok(())
 }
@@ -58,6 +63,7 @@ fn every_octet(rig: &mut Rig, sheet: &[u8]) -> Outcome {
 
 fn largest_sheets(rig: &mut Rig) -> Outcome {
     for spans in [Spans::First, Spans::Last, Spans::Crossing] {
+        judge_sheet(rig, &largest(16, spans).in_short().octets())?;
         let sheet = largest(64, spans).octets();
         judge_sheet(rig, &sheet)?;
         for at in 0..sheet.len() {
@@ -88,6 +94,7 @@ fn cuts(rig: &mut Rig) -> Outcome {
     let sheets = [
         sheet_p().octets(),
         tolerant(8, Some(1)).octets(),
+        tolerant(16, Some(1)).in_short().octets(),
         largest(48, Spans::Last).octets(),
     ];
     for sheet in sheets {
@@ -122,7 +129,7 @@ fn kind_sequences(rig: &mut Rig) -> Outcome {
     Ok(())
 }
 
-/// Records that are good in themselves: kind 5 is unknown, as long as request 7 is not in.
+/// Records that are good in themselves.
 fn records_of(kinds: &[usize]) -> Vec<u8> {
     let mut octets = Vec::new();
     for (index, kind) in kinds.iter().enumerate() {
@@ -133,7 +140,7 @@ fn records_of(kinds: &[usize]) -> Vec<u8> {
             2 => region_record(&region(u64::from(number) * 8, 8, 7)),
             3 => parameter_record(&parameter(u16::from(number), 8, 2)),
             4 => item_record(&item(number, &[7])),
-            5 => vec![5],
+            5 => vec![5, 16, 3, 4],
             _ => tolerance_record(number % 4),
         });
     }

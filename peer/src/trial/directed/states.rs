@@ -15,6 +15,7 @@ pub fn run(rig: &mut Rig) -> Outcome {
             every_octet(rig, &tolerant(length, tolerance))?;
         }
     }
+    every_octet(rig, &tolerant(16, Some(2)).in_short())?;
     rig.origin = "directed: fields of a state record together".to_string();
     fields_together(rig, &tolerant(16, Some(2)))
 }
@@ -23,7 +24,7 @@ pub fn run(rig: &mut Rig) -> Outcome {
 fn judge_state(rig: &mut Rig, plan: &Plan, state: &[u8]) -> Outcome {
     let length = usize::from(plan.pdu_length);
     rig.inputs.command = vec![0; length];
-    build::follow(&mut rig.inputs.command, state);
+    build::follow(plan.wire, &mut rig.inputs.command, state);
     rig.inputs.reply = vec![0xEE; length];
     rig.inputs.trace.clear();
     for call in [Call::Exchange, Call::Enable, Call::Reset, Call::Replay] {

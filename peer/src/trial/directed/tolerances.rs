@@ -34,15 +34,22 @@ fn plans() -> Vec<Plan> {
     items_alone.items = vec![item(6, &[6, 3]), item(7, &[0])];
     let mut full = largest(64, Spans::Crossing);
     full.tolerance = None;
-    vec![both_ends(16), sheet_p(), Plan::bare(48), items_alone, full]
+    vec![
+        both_ends(16),
+        sheet_p(),
+        Plan::bare(48),
+        items_alone,
+        full,
+        both_ends(16).in_short(),
+    ]
 }
 
-fn packed(number: u64, place: usize) -> u64 {
+pub fn packed(number: u64, place: usize) -> u64 {
     number | (place as u64) << 32
 }
 
 /// The sheet has to be told this, and every call has to agree.
-fn expect_sheet(rig: &mut Rig, records: &[Vec<u8>], answer: u64) -> Outcome {
+pub fn expect_sheet(rig: &mut Rig, records: &[Vec<u8>], answer: u64) -> Outcome {
     rig.inputs.sheet = records.concat();
     rig.expect(Call::Sheet, answer)?;
     judge_sheet_briefly(rig, &records.concat())
@@ -99,23 +106,20 @@ fn places(rig: &mut Rig, plan: &Plan) -> Outcome {
 fn behind(rig: &mut Rig, plan: &Plan) -> Outcome {
     let more = [
         vec![1, plan.pdu_length, plan.version, plan.profile],
+        vec![5, 16, plan.version, plan.profile],
         region_record(&region(0xFFFF_FFFF, 1, 7)),
         parameter_record(&parameter(0xFFFF, 0x1000, 1)),
         item_record(&item(0xFF, &[1])),
         tolerance_record(0),
         tolerance_record(3),
         tolerance_record(4),
-        vec![5],
         vec![7, 1],
+        vec![8],
     ];
     let start = body(plan).concat().len();
     for value in VALUES {
         for record in &more {
-            let number = if [5, 7].contains(&record[0]) {
-                UNKNOWN
-            } else {
-                PLACE
-            };
+            let number = if record[0] > 6 { UNKNOWN } else { PLACE };
             let answer = if value > 3 {
                 packed(RANGE, start)
             } else {

@@ -3,7 +3,7 @@
 use crate::engine::memory_mode;
 use crate::trial::build;
 use crate::trial::call::Call;
-use crate::trial::plan::{Plan, LENGTHS};
+use crate::trial::plan::{each_type, Plan, LENGTHS};
 use crate::trial::probe::{take_plan, Outcome};
 use crate::trial::recorder::Recorder;
 use crate::trial::rig::Rig;
@@ -19,8 +19,8 @@ const LONGEST: usize = (1 << 30) - 1;
 const KIND: usize = 1;
 
 pub fn run(rig: &mut Rig) -> Outcome {
-    for length in LENGTHS {
-        let plan = both_ends(length);
+    for plan in each_type(both_ends) {
+        let length = plan.pdu_length;
         take_plan(rig, &plan);
         let recorder = record(&plan);
         rig.origin = "directed: an agreeing trace".to_string();
@@ -46,23 +46,36 @@ fn packed(number: u64, place: u64) -> u64 {
 }
 
 /// Writes, reads, both links, alarms without and with a place, and a write as the last record.
-fn record(plan: &Plan) -> Recorder {
-    let sheet = plan.octets();
-    let memory = build::distinct_octets(plan.memory_length());
-    let mut recorder = Recorder::new(&plain_state(plan.pdu_length, ASYNC), &memory);
+fn commands(plan: &Plan) -> [Vec<u8>; 8] {
     let write = |address| build::memory(plan, 0x1E, memory_mode::octet(2), 2, address);
-    let commands = [
+    let (mut first, mut read, mut last) = (
         write(6),
-        build::command(plan, 0x0D),
         build::memory(plan, 0x1D, memory_mode::octet(1), 4, 7),
+        write(0xFFFF_FFF2),
+    );
+    if !plan.wire.has_memory {
+        first = build::parameter(plan, 0x02, 0x0107, 8);
+        read = build::identity(plan, 0x80, 2, 8);
+        last = build::parameter(plan, 0x02, 0x0007, 3);
+    }
+    [
+        first,
+        build::command(plan, 0x0D),
+        read,
         build::parameter(plan, 0x02, 0x0107, 8),
         build::command(plan, 0x40),
         build::alarm_mode(plan, 0x06, 1),
         build::alarm_mode(plan, 0x05, 0),
-        write(0xFFFF_FFF2),
-    ];
-    for mut command in commands {
-        build::follow(&mut command, recorder.current_state());
+        last,
+    ]
+}
+
+fn record(plan: &Plan) -> Recorder {
+    let sheet = plan.octets();
+    let memory = build::distinct_octets(plan.memory_length());
+    let mut recorder = Recorder::new(&plain_state(plan.pdu_length, ASYNC), &memory);
+    for mut command in commands(plan) {
+        build::follow(plan.wire, &mut command, recorder.current_state());
         recorder.record(&sheet, &command);
     }
     recorder

@@ -4,7 +4,7 @@ use super::failures::TOLERANCES;
 use super::states::{extend_each, fields};
 use crate::trial::build::{self, distinct_octets};
 use crate::trial::call::Call;
-use crate::trial::plan::{Plan, LENGTHS};
+use crate::trial::plan::{each_type, Plan};
 use crate::trial::probe::{exchange_in_step, take_plan, Outcome};
 use crate::trial::rig::Rig;
 use crate::trial::samples::tolerant;
@@ -16,9 +16,8 @@ const NOT_DISABLED: u64 = 6;
 const CUT: u64 = 11;
 
 pub fn run(rig: &mut Rig) -> Outcome {
-    for length in LENGTHS {
-        for tolerance in TOLERANCES {
-            let plan = tolerant(length, tolerance);
+    for tolerance in TOLERANCES {
+        for plan in each_type(|length| tolerant(length, tolerance)) {
             take_plan(rig, &plan);
             rig.origin = "directed: old records that are turned".to_string();
             good_records(rig, &plan)?;
@@ -27,8 +26,10 @@ pub fn run(rig: &mut Rig) -> Outcome {
             rig.origin = "directed: old records given to other calls".to_string();
             given_to_others(rig, &plan)?;
         }
-        rig.origin = "directed: every octet of an old record with every value".to_string();
-        every_octet(rig, &tolerant(length, Some(1)))?;
+    }
+    rig.origin = "directed: every octet of an old record with every value".to_string();
+    for plan in each_type(|length| tolerant(length, Some(1))) {
+        every_octet(rig, &plan)?;
     }
     rig.origin = "directed: fields of an old record together".to_string();
     fields_together(rig, &tolerant(16, Some(3)))

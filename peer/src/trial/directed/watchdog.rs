@@ -2,7 +2,7 @@
 
 use crate::engine::memory_mode;
 use crate::trial::build;
-use crate::trial::plan::{Plan, LENGTHS};
+use crate::trial::plan::{each_type, Plan};
 use crate::trial::probe::{exchange, exchange_from, exchange_in_step};
 use crate::trial::probe::{take_plan, unexpected, Outcome};
 use crate::trial::rig::Rig;
@@ -11,14 +11,18 @@ use crate::trial::states::{counting_state, plain_state, ASYNC, DISCONNECTED, LIN
 
 pub fn run(rig: &mut Rig) -> Outcome {
     rig.origin = "directed: every count of the watchdog".to_string();
-    every_count(rig, &both_ends(32))?;
+    let (plan, short) = (both_ends(32), both_ends(16).in_short());
+    every_count(rig, &plan, &commands(&plan))?;
+    every_count(rig, &short, &commands(&short)[..2])?;
     long_count(rig, &both_ends(8))?;
+    long_count(rig, &short)?;
     rig.origin = "directed: MN not known".to_string();
-    for length in LENGTHS {
-        not_known(rig, &both_ends(length))?;
+    for plan in each_type(both_ends) {
+        not_known(rig, &plan)?;
     }
     rig.origin = "directed: WDT outside link 3".to_string();
-    outside_link_3(rig, &both_ends(16))
+    outside_link_3(rig, &both_ends(16))?;
+    outside_link_3(rig, &short)
 }
 
 /// Commands that stay in link 3, that leave it, and that are refused there.
@@ -36,7 +40,7 @@ fn commands(plan: &Plan) -> [Vec<u8>; 6] {
 /// One exchange with this WDT that has to end in this link.
 fn expect_link(rig: &mut Rig, state: &[u8], command: &[u8], wdt: u8, link: u8) -> Outcome {
     let mut command = command.to_vec();
-    command[1] = wdt;
+    command[rig.wire().wdt] = wdt;
     exchange_from(rig, state, &command)?;
     if rig.inputs.state[LINK_AT] == link {
         return Ok(());
@@ -46,16 +50,15 @@ fn expect_link(rig: &mut Rig, state: &[u8], command: &[u8], wdt: u8, link: u8) -
 
 /// Every last MN and RSN with every MN and SN. One WDT of 256 is in step; the
 /// cycle is lost by MN alone, by SN alone, or by both.
-fn every_count(rig: &mut Rig, plan: &Plan) -> Outcome {
+fn every_count(rig: &mut Rig, plan: &Plan, commands: &[Vec<u8>]) -> Outcome {
     take_plan(rig, plan);
-    let commands = commands(plan);
     for last_mn in 0..16 {
         for rsn in 0..16 {
             for wdt in 0..=255 {
                 let mut state = counting_state(plan.pdu_length, last_mn, rsn);
                 state[9] = 12 * (wdt & 1);
                 let in_step = wdt & 15 == (last_mn + 1) % 16 && wdt >> 4 == rsn;
-                for command in &commands {
+                for command in commands {
                     let link = match command[0] {
                         _ if !in_step => ASYNC,
                         0x0F => DISCONNECTED,
@@ -126,7 +129,7 @@ fn long_count(rig: &mut Rig, plan: &Plan) -> Outcome {
         for (first_mn, first_sn) in (0..16).zip((0..16).rev()) {
             exchange_from(rig, &plain_state(plan.pdu_length, link), &entry)?;
             let mut first = build::command(plan, 0x00);
-            first[1] = first_sn << 4 | first_mn;
+            first[plan.wire.wdt] = first_sn << 4 | first_mn;
             exchange(rig, &first)?;
             for code in (0..40).map(|step| if step % 5 == 0 { 0x20 } else { 0x00 }) {
                 exchange_in_step(rig, build::command(plan, code))?;

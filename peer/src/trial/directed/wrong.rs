@@ -3,7 +3,7 @@
 
 use crate::engine::memory_mode;
 use crate::trial::build;
-use crate::trial::plan::{item, parameter, region, Plan, LENGTHS};
+use crate::trial::plan::{each_type, item, parameter, region, Plan};
 use crate::trial::probe::{expect_told, expect_told_in_step, take_plan, Outcome, Told};
 use crate::trial::rig::Rig;
 use crate::trial::states::{counting_state, plain_state, ASYNC, DISCONNECTED};
@@ -24,9 +24,8 @@ const RSN: u8 = 9;
 
 pub fn run(rig: &mut Rig) -> Outcome {
     rig.origin = "directed: fields of a command wrong at once".to_string();
-    for length in LENGTHS {
-        for rights in [7, 0] {
-            let plan = plan(length, rights);
+    for rights in [7, 0] {
+        for plan in each_type(|length| plan(length, rights)) {
             take_plan(rig, &plan);
             for case in cases(&plan, rights) {
                 every_set(rig, &plan, &case)?;
@@ -77,6 +76,7 @@ fn cases(plan: &Plan, rights: u8) -> Vec<Case> {
     cases.extend([0x01, 0x02].map(|code| parameter_case(plan, code, rights)));
     cases.extend([0x05, 0x06].map(|code| alarm_case(plan, code)));
     cases.extend([0x1D, 0x1E].map(|code| memory_case(plan, code, rights)));
+    cases.retain(|case| plan.wire.knows(case.command[0]));
     for case in &mut cases {
         let length = case.command.len();
         case.wrong
@@ -117,43 +117,53 @@ fn parameter_case(plan: &Plan, code: u8, rights: u8) -> Case {
 }
 
 fn identity_case(plan: &Plan) -> Case {
+    let mut wrong = vec![
+        at(4, &[ITEM - 1], (9, 4)),
+        // Offset 2 and size 4, or offset 1 and size 5, go past the item.
+        at(5, &[2], (9, 6)),
+        at(5, &[0xFF], (9, 6)),
+        at(6, &[5], (9, 6)),
+        at(6, &[0, 0], (9, 6)),
+    ];
+    if plan.wire.field_octets == 2 {
+        wrong.push(at(7, &[1], (9, 6)));
+    }
     Case {
         command: build::identity(plan, ITEM, 1, 4),
         told: with_room(plan, ACCEPTED),
-        wrong: vec![
-            at(4, &[ITEM - 1], (9, 4)),
-            // Offset 2 and size 4, or offset 1 and size 5, go past the item.
-            at(5, &[2], (9, 6)),
-            at(5, &[0xFF], (9, 6)),
-            at(6, &[5], (9, 6)),
-            at(6, &[0, 0], (9, 6)),
-            at(7, &[1], (9, 6)),
-        ],
+        wrong,
     }
 }
 
 fn alarm_case(plan: &Plan, code: u8) -> Case {
     let no_room = code == 0x05 && plan.pdu_length == 8;
     let failed = if no_room { NO_ROOM } else { (9, 4) };
+    let mut wrong = vec![at(4, &[1], failed), at(4, &[0x80], failed)];
+    if plan.wire.field_octets == 2 {
+        wrong.push(at(5, &[0x80], failed));
+    }
     Case {
         command: build::alarm_mode(plan, code, 0),
         told: if no_room { NO_ROOM } else { ACCEPTED },
-        wrong: vec![at(4, &[1], failed), at(5, &[0x80], failed)],
+        wrong,
     }
 }
 
 fn connect_case(plan: &Plan) -> Case {
+    let mut wrong = vec![
+        at(4, &[plan.version + 1], (9, 4)),
+        at(5, &[0x04], (9, 5)),
+        at(5, &[0x86], (9, 5)),
+        at(6, &[1], (9, 6)),
+        at(6, &[0], (9, 6)),
+    ];
+    if plan.wire.names_profile {
+        wrong.push(at(7, &[plan.profile ^ 0x80], (9, 7)));
+    }
     Case {
         command: build::connect(plan, 6, 2),
         told: ACCEPTED,
-        wrong: vec![
-            at(4, &[plan.version + 1], (9, 4)),
-            at(5, &[0x04], (9, 5)),
-            at(5, &[0x86], (9, 5)),
-            at(6, &[1], (9, 6)),
-            at(6, &[0], (9, 6)),
-            at(7, &[plan.profile ^ 0x80], (9, 7)),
-        ],
+        wrong,
     }
 }
 
@@ -212,7 +222,7 @@ fn in_every_link(rig: &mut Rig, plan: &Plan, command: &[u8], told: Told) -> Outc
     // By MN, by SN, and by both.
     for wdt in [RSN << 4 | LAST_MN, 0x10 | (LAST_MN + 1), 0x10 | LAST_MN] {
         let mut lost = command.to_vec();
-        lost[1] = wdt;
+        lost[plan.wire.wdt] = wdt;
         expect_told(rig, &counting, &lost, LOST_CYCLE)?;
     }
     Ok(())

@@ -1,0 +1,58 @@
+//! The kinds of a sheet's records: their octets, lengths and order.
+
+use super::frame::{ENHANCED_LINK, SHORT_LINK};
+
+pub const LINK_RECORD: usize = 4;
+pub const REGION_RECORD: usize = 10;
+pub const PARAMETER_RECORD: usize = 8;
+pub const ITEM_RECORD: usize = 35;
+const TOLERANCE_RECORD: usize = 2;
+
+/// The kinds in the order in which a sheet has them, the end apart.
+#[derive(Clone, Copy, PartialEq, Eq, PartialOrd, Ord)]
+pub enum Kind {
+    /// Of the enhanced type or, request 7, of the short one.
+    Link,
+    Region,
+    Parameter,
+    Item,
+    /// How many failures in a row are allowed (request 9).
+    Tolerance,
+    End,
+}
+
+impl Kind {
+    /// The kind of this octet, if there is one.
+    pub fn of(octet: u8) -> Option<Kind> {
+        match octet {
+            0 => Some(Kind::End),
+            ENHANCED_LINK | SHORT_LINK => Some(Kind::Link),
+            2 => Some(Kind::Region),
+            3 => Some(Kind::Parameter),
+            4 => Some(Kind::Item),
+            6 => Some(Kind::Tolerance),
+            _ => None,
+        }
+    }
+
+    /// The octets of its records, the kind included.
+    pub fn record_length(self) -> usize {
+        match self {
+            Kind::Link => LINK_RECORD,
+            Kind::Region => REGION_RECORD,
+            Kind::Parameter => PARAMETER_RECORD,
+            Kind::Item => ITEM_RECORD,
+            Kind::Tolerance => TOLERANCE_RECORD,
+            Kind::End => 1,
+        }
+    }
+
+    /// A link record of either type comes first and once, a tolerance once; the others never step back.
+    pub fn in_place(self, last: Option<Kind>) -> bool {
+        match last {
+            None => self == Kind::Link,
+            Some(Kind::Tolerance) => self > Kind::Tolerance,
+            Some(last) => self != Kind::Link && self >= last,
+        }
+    }
+}
