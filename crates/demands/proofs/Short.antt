@@ -66,9 +66,25 @@ module _ (h : Sheet) (sheet s m c r : List ℕ) (is-short : h .pdu ≡ short) (a
 
     none : Every (λ (q : Row). code c ≡ q .code → ⊥) (table h s m c)
     none =
-        subst (λ (p : PduType). Every (λ (q : Row). code c ≡ q .code → ⊥) (tableOf h s m c p)) (sym is-short)
-        (other-code 0x00 never, (other-code 0x01 never, (other-code 0x02 never, (other-code 0x03 never, (other-code 0x05 never, (other-code 0x06 never,
-        (other-code 0x0D never, (other-code 0x0E never, (other-code 0x0F never, tt)))))))))
+        subst (λ (p : PduType). Every (λ (q : Row). code c ≡ q .code → ⊥) (tableOf h s m c p)) (sym is-short) (
+          other-code 0x00 never,
+          (
+            other-code 0x01 never,
+            (
+              other-code 0x02 never,
+              (
+                other-code 0x03 never,
+                (
+                  other-code 0x05 never,
+                  (
+                    other-code 0x06 never,
+                    (other-code 0x0D never, (other-code 0x0E never, (other-code 0x0F never, tt))),
+                  ),
+                ),
+              ),
+            ),
+          ),
+        )
 
     pub unknown : (alarmIn h (x .reply) ≡ 8) × (x .answer .place ≡ 0)
     unknown = unknown-code-is-told h sheet s m c r a go none

@@ -35,8 +35,8 @@ lawS = record {
   profile = 0;
   regions = record { start = 0x1000; length = 4; rights = 3 } ∷ record { start = 0x1004; length = 4; rights = 6 } ∷ record { start = 0x2000; length = 9; rights = 1 } ∷ [];
   parameters =
-    record { number = 7; address = 0x1002; size = 2 } ∷ record { number = 8; address = 0x1004; size = 2 } ∷ record { number = 9; address = 0x2000; size = 9 }
-    ∷ record { number = 10; address = 0x2000; size = 8 } ∷ [];
+      record { number = 7; address = 0x1002; size = 2 } ∷ record { number = 8; address = 0x1004; size = 2 } ∷ record { number = 9; address = 0x2000; size = 9 }
+      ∷ record { number = 10; address = 0x2000; size = 8 } ∷ [];
   items = record { code = 2; length = 4; octets = 0x44 ∷ 0x52 ∷ 0x31 ∷ 0x30 ∷ 0x00 ∷ 0x00 ∷ 0x00 ∷ 0x00 ∷ 0x00 ∷ 0x00 ∷ 0x00 ∷ 0x00 ∷ 0x00 ∷ 0x00 ∷ 0x00 ∷ 0x00 ∷ 0x00 ∷ 0x00 ∷ 0x00 ∷ 0x00 ∷ 0x00 ∷ 0x00 ∷ 0x00 ∷ 0x00 ∷ 0x00 ∷ 0x00 ∷ 0x00 ∷ 0x00 ∷ 0x00 ∷ 0x00 ∷ 0x00 ∷ 0x00 ∷ [] } ∷ [];
   tolerances = 1 ∷ [];
 }

@@ -25,11 +25,25 @@ fn echo_fields(form: Form, by: Carrier, command: &[u8], reply: &mut [u8])
     ensures { λ _. ⌜ now (reply .exit) ≡ echoed (now (command .entry)) (echoFrom by) (echoSize form by) (now (reply .entry)) ⌝ }
 {
     let from = crate::places::echo_from(by);
-    enter(reply, from, command, from, crate::places::echo_size(form, by));
+    enter(
+        reply,
+        from,
+        command,
+        from,
+        crate::places::echo_size(form, by),
+    );
 }
 
 // A carrier's fields again, and its data out of a source.
-fn carry(form: Form, by: Carrier, source: &[u8], from: usize, n: usize, command: &[u8], reply: &mut [u8])
+fn carry(
+    form: Form,
+    by: Carrier,
+    source: &[u8],
+    from: usize,
+    n: usize,
+    command: &[u8],
+    reply: &mut [u8],
+)
     requires { ⌜ (from + n ≤ length (now source)) × (dataFrom form by + n ≤ length (now command)) × (dataFrom form by + n ≤ length (now reply)) ⌝ }
     ensures { λ _. ⌜ now (reply .exit) ≡ carried form by (part (now (source .entry)) from n) (now (command .entry)) (now (reply .entry)) ⌝ }
 {
@@ -64,7 +78,14 @@ fn tell_alarms(at: usize, old: u8, fault: u8, reply: &mut [u8])
 }
 
 // The body over a reply that has its head.
-pub fn fill_body(form: Form, effect: Effect, sheet: &[u8], memory: &[u8], command: &[u8], reply: &mut [u8])
+pub fn fill_body(
+    form: Form,
+    effect: Effect,
+    sheet: &[u8],
+    memory: &[u8],
+    command: &[u8],
+    reply: &mut [u8],
+)
     requires { ⌜ (length (now command) ≡ length (now reply)) × Fitting form effect (length (now reply)) (length (now memory)) (length (now sheet)) ⌝ }
     ensures { λ _. ⌜ now (reply .exit) ≡ bodyOf form effect (now (sheet .entry)) (now (memory .entry)) (now (command .entry)) (now (reply .entry)) ⌝ }
 {
@@ -96,7 +117,12 @@ pub fn fill_body(form: Form, effect: Effect, sheet: &[u8], memory: &[u8], comman
             command,
             reply,
         ),
-        Effect::Alarms(old, fault) => tell_alarms(crate::places::alarms_at(form), old, fault, reply),
+        Effect::Alarms(old, fault) => tell_alarms(
+            crate::places::alarms_at(form),
+            old,
+            fault,
+            reply,
+        ),
         Effect::Connects => echo_named(crate::places::fields_end(form), command, reply),
     }
 }

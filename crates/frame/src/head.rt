@@ -63,7 +63,15 @@ fn last(reply: &mut [u8], rwdt: u8)
 }
 
 // The head and RWDT over a reply of zeros.
-pub fn head(form: Form, reply: &mut [u8], code: u8, wdt: u8, identity: u8, alarm: u8, next: LinkState)
+pub fn head(
+    form: Form,
+    reply: &mut [u8],
+    code: u8,
+    wdt: u8,
+    identity: u8,
+    alarm: u8,
+    next: LinkState,
+)
     requires { ⌜ Sized form (length (now reply)) ⌝ }
     ensures { λ _. ⌜ now (reply .exit) ≡ begunOf form (length (now (reply .entry))) code wdt identity alarm next ⌝ }
 {

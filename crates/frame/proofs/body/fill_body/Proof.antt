@@ -105,5 +105,5 @@ returns-6 c =
 
 pub fill-body-spec : {M : Type 1} → statement M
 fill-body-spec =
-    tie.close (tie.spec (λ c. search needs) (λ c. search needs) (λ c. search needs) (λ c. search needs) carry-requires (λ c. search needs) (λ c κs. search needs) (λ c. search needs) carry-requires-2 (λ c. search needs) (λ c κs. search needs) (λ c. search needs) (λ c. search needs) identify-requires (λ c. search needs) (λ c κs. search needs) tell-alarms-requires (λ c. search needs) (λ c κs. search needs) 
+    tie.close (tie.spec (λ c. search needs) (λ c. search needs) (λ c. search needs) (λ c. search needs) carry-requires (λ c. search needs) (λ c κs. search needs) (λ c. search needs) carry-requires-2 (λ c. search needs) (λ c κs. search needs) (λ c. search needs) (λ c. search needs) identify-requires (λ c. search needs) (λ c κs. search needs) tell-alarms-requires (λ c. search needs) (λ c κs. search needs)
     echo-named-requires returns (λ c. search needs) returns-2 (λ c. search needs) returns-3 (λ c. search needs) returns-4 (λ c. search needs) returns-5 (λ c. search needs) returns-6)

@@ -49,5 +49,5 @@ returns-6 c = rw (c .enum-told5 .given .1)
 
 pub store-spec : {M : Type 1} → statement M
 store-spec =
-    tie.close (tie.spec (λ c. search needs) (λ c. search needs) (λ c. search needs) (λ c. search needs) (λ c κs. search needs) (λ c. search needs) enter-requires (λ c. search needs) (λ c. search needs) (λ c. search needs) 
+    tie.close (tie.spec (λ c. search needs) (λ c. search needs) (λ c. search needs) (λ c. search needs) (λ c κs. search needs) (λ c. search needs) enter-requires (λ c. search needs) (λ c. search needs) (λ c. search needs)
     returns returns-2 (λ c. search needs) returns-3 returns-4 returns-5 returns-6)
