@@ -50,7 +50,7 @@ chosen "kind 05 behind kind 01" engine/sheet.rs "$(also_in_place '(self.octets[0
 fault "kind 01 behind kind 05" engine/sheet.rs "$(also_in_place '(self.octets[0], octet, last) == (5, 1, Some(Kind::Link))')"
 fault "kind 05 twice" engine/sheet.rs "$(also_in_place '(self.octets[0], octet, last) == (5, 5, Some(Kind::Link))')"
 fault "kind 05 behind regions" engine/sheet.rs "$(also_in_place 'octet == 5 \&\& last == Some(Kind::Region)')"
-fault "kind 05 before the end" engine/sheet.rs "$(also_in_place 'octet == 5 \&\& last == Some(Kind::Tolerance)')"
+chosen "kind 05 before the end" engine/sheet.rs "$(also_in_place 'octet == 5 \&\& last == Some(Kind::Tolerance)')"
 chosen "L 32 in kind 05" engine/frame.rs "$(in_short '\[16\]' '[16, 32]')"
 fault "L 8 in kind 05" engine/frame.rs "$(in_short '\[16\]' '[8, 16]')"
 fault "L 17 in kind 05" engine/frame.rs "$(in_short '\[16\]' '[16, 17]')"
@@ -70,7 +70,7 @@ fault "the L of kind 05 before its place" engine/sheet.rs \
 fault "the cut of kind 05 before its place" engine/sheet.rs "$(before_place_of 'octet == 5 \&\& self.octets.len() < place + 4' CUT)"
 fault "the L of kind 05 before its cut" engine/sheet.rs \
     's/let record = self$/if octet == 5 \&\& last.is_none() \&\& self.octets.get(1).map_or(false, |\&length| length != 16) { return Err(answer::RANGE); } &/'
-fault "a cut kind 05 told behind its kind" engine/sheet.rs "$(told_there 'number == 11 \&\& octets.get(place) == Some(\&5)' 'place + 1')"
+chosen "a cut kind 05 told behind its kind" engine/sheet.rs "$(told_there 'number == 11 \&\& octets.get(place) == Some(\&5)' 'place + 1')"
 fault "another L told at its octet" engine/sheet.rs "$(told_there 'number == 14 \&\& octets[place] == 5' 'place + 1')"
 fault "a second link record told at the first" engine/sheet.rs "$(told_there 'number == 13 \&\& place == 4 \&\& octets[4] == 5' '0')"
 fault "kind 05 unknown" engine/kind.rs 's/ENHANCED_LINK | SHORT_LINK/ENHANCED_LINK/'
@@ -98,7 +98,7 @@ fault "the alarm into the status alone" engine/exchange.rs 's/reply\[frame.alarm
 fault "the alarm in the high half of octet 1" engine/exchange.rs "s/reply\[frame.alarm\] |= alarm;/reply[frame.alarm] |= alarm << if $where_short { 4 } else { 0 };/"
 fault "the latch in octet 1" engine/exchange.rs "$(besides "if $where_short { reply[1] = state.command_latch; }")"
 fault "the communication latch in octet 1" engine/exchange.rs "$(besides "if $where_short \\&\\& alarm == 0 { reply[1] = state.communication_latch; }")"
-chosen "the communication latch in bits 8 to 11" engine/exchange.rs \
+fault "the communication latch in bits 8 to 11" engine/exchange.rs \
     "s/reply\[3\] = state.communication_latch << 4/reply[3] = state.communication_latch << if $where_short { 0 } else { 4 }/"
 fault "the communication latch in octet 3 whole" engine/exchange.rs \
     "s/reply\[3\] = state.communication_latch << 4/reply[3] = state.communication_latch * if $where_short { 0x11 } else { 0x10 }/"
@@ -135,7 +135,7 @@ fault "com_time told at 7" engine/command.rs "s/least_com_time, COM_TIME_AT/leas
 fault "CONNECT without reserves" engine/command.rs "/^fn connection/,/^}/s/command\[4\] ==/command[if $checks_short { 1 } else { 4 }] ==/"
 fault "a parameter's number without reserves" engine/command.rs "s/number_16(command, 4);/number_16(command, if $checks_short { 1 } else { 4 });/"
 fault "a short parameter's size told at 7" engine/command.rs "/^fn parameter/,/^}/s/SIZE_AT/if $checks_short { 7 } else { SIZE_AT }/"
-chosen "an ID size of two octets" engine/frame.rs "$(in_short 'id_size: Field { at: 6, octets: 1 }' 'id_size: Field { at: 6, octets: 2 }')"
+fault "an ID size of two octets" engine/frame.rs "$(in_short 'id_size: Field { at: 6, octets: 1 }' 'id_size: Field { at: 6, octets: 2 }')"
 fault "an ID size at octet 7" engine/frame.rs "$(in_short 'id_size: Field { at: 6, octets: 1 }' 'id_size: Field { at: 7, octets: 1 }')"
 fault "an ID offset of two octets" engine/command.rs \
     "s/let offset = usize::from(command\[5\]);/let offset = if $checks_short { usize::from(number_16(command, 5)) } else { usize::from(command[5]) };/"

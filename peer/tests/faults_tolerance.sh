@@ -204,10 +204,10 @@ fault "a place of a refused turn" engine/mod.rs \
     '/^fn try_turn/,/^}/s/ok_or_else(|| refuse(answer::STATE))/ok_or_else(|| answer::refuse_at(answer::STATE, old.len()))/'
 fault "another number for a bad old record" engine/mod.rs '/^fn try_turn/,/^}/s/ok_or_else(|| refuse(answer::STATE))/ok_or_else(|| refuse(answer::MEMORY))/'
 fault "an old record turned to the sheet's count" engine/mod.rs "$(behind 'if turned.counters.is_some() { state[10] = sheet.tolerance(); }')"
-chosen "the count left as it was" engine/mod.rs "$(turned_so 'let count = state[10];' | sed 's/ &/ \& state[10] = count;/')"
+fault "the count left as it was" engine/mod.rs "$(turned_so 'let count = state[10];' | sed 's/ &/ \& state[10] = count;/')"
 fault "turned with the old kind" engine/mod.rs "$(behind 'state[0] = 0x11;')"
 fault "counters not turned" engine/mod.rs "$(behind 'state[5..8].fill(0);')"
-fault "RSN not turned" engine/mod.rs "$(behind 'state[7] = 0;')"
+chosen "RSN not turned" engine/mod.rs "$(behind 'state[7] = 0;')"
 fault "dual not turned" engine/mod.rs "$(behind 'state[3] = 0;')"
 fault "latches not turned" engine/mod.rs "$(behind 'state[8..10].fill(0);')"
 fault "turned to Disabled" engine/mod.rs "$(behind 'if turned.link == Link::Disconnected { state[1] = 0; }')"
