@@ -168,7 +168,7 @@ module _ (h : Sheet) (s m c : List ℕ) where
   shortTable =
       -- NOP (4.3.1.1)
       row 0x00 (1 ∷ 2 ∷ 3 ∷ []) [] [] [] []
-      -- PRM_RD, PRM_WR (4.3.1.2, 4.3.1.3): 4-5 no, 6 size, data from 7
+      -- PRM_RD, PRM_WR (4.3.1.2, 4.3.1.3): 4-5 number, 6 size, data from 7
       ∷ row 0x01 (2 ∷ 3 ∷ []) (parameterChecks 8 readable)
       [] (again c 4 6 ∷ piece 7 (held (cells (h .regions)) m (parameter .address) (parameter .size)) ∷ []) []
       ∷ row 0x02 (2 ∷ 3 ∷ []) (parameterChecks 8 (writable (link s)))
