@@ -152,7 +152,7 @@ static size_t used_by_exchange(const struct size *size)
         make_command(codes[i], size);
         used = used_by(ask_exchange);
         most = used > most ? used : most;
-        if (size->items > 0 && t24_reply_alarm(reply) != 0)
+        if (size->items > 0 && t24_reply_alarm(sheet.octets, reply) != 0)
             exit(3);
         keep_record();
     }

@@ -64,9 +64,9 @@ pub fn lengths(sheet: &[u8]) -> u64 {
     }
 }
 
-/// Of the calls and their records: 2 since the state record has eleven octets.
+/// Of the calls and their records: 2 since the state record has eleven octets, 3 since a reply may be of the short type.
 pub fn version() -> u64 {
-    2
+    3
 }
 
 /// Writes Disabled with the sheet's L and zeros into eleven octets of any content.
