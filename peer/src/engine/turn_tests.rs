@@ -32,8 +32,8 @@ fn turned(sheet: &[u8], old: &[u8], state: &mut [u8]) -> u64 {
 }
 
 #[test]
-fn the_version_is_2() {
-    assert_eq!(version(), 2);
+fn the_version_is_3() {
+    assert_eq!(version(), 3);
 }
 
 #[test]
