@@ -2,7 +2,6 @@
 --     rows-alike       each row that both tables have
 --     fate-alike       and so the whole fate
 use mathlib.Core.Bool.{Bool, true, false, not, _&&_, _||_}
-use mathlib.Core.Logic.{⊎-elim}
 use mathlib.Core.Path.{_≡_, refl, sym, ap, ap₂, subst, _∙_}
 use mathlib.Core.List.{List, [], _∷_, _++_, map}
 use Prim.Native.Nat.{ℕ, _+_, _-_, _/_, _%_}
@@ -10,19 +9,18 @@ use native.Mathlib.Omega.{arith}
 use borrow.Author.Tests.{ne-eqb, le-leb, eq-eqb, eqb-true}
 use lib.Dec.{eqb, leb}
 use lib.ListN.{take, drop}
-use Rattle.octets.proofs.Cases.{decided}
 use Rattle.law.specs.Words.{when, implies, bit, Every, oneOf, Piece, piece}
-use Rattle.law.specs.Sheet.{PduType, enhanced, short, Parameter, Item, Sheet, sheetOctets}
+use Rattle.law.specs.Sheet.{enhanced, short, Parameter, Item, Sheet, sheetOctets}
 use Rattle.law.specs.State.{link, mnKnown, lastMn, rsn}
 use Rattle.law.specs.Memory.{cells, stored, readable, writable}
-use Rattle.law.specs.Table.{Check, check, Row, row, rightsCheck, parameterOf, itemOf, comMod, enhancedTable, shortTable, parameter}
-use Rattle.law.specs.Exchange.{Fate, code, wdt, mn, sn, missed, refused, checked, judged, fateOf, failing, passing, stateAfter}
+use Rattle.law.specs.Table.{Check, check, Row, rightsCheck, parameterOf, itemOf, comMod, enhancedTable, shortTable, parameter}
+use Rattle.law.specs.Exchange.{Fate, code, missed, refused, checked, judged, fateOf, failing, passing, stateAfter}
 use Rattle.law.proofs.Codes.{by-code}
 use Rattle.law.proofs.Laid.{when-yes}
 use Rattle.law.proofs.World.{nth}
 use Rattle.slave.specs.Answers.{told}
 use Rattle.slave.specs.Exchange.{Left}
-use Rattle.demands.specs.Answered.{Answered, alarmIn}
+use Rattle.demands.specs.Answered.{alarmIn}
 use Rattle.demands.specs.Places.{Holds, allChecks}
 use Rattle.demands.specs.Short.{typed, InBothTypes, SameFields, SameFieldsSameFate}
 use Rattle.demands.proofs.Done.{answered-done, seen-alarm}

@@ -1,18 +1,16 @@
 -- Request 7: the short type's replies, its codes, and no profile.
-use mathlib.Core.Bool.{Bool, true, false, not, _&&_, _||_}
-use mathlib.Core.Logic.{⊎-elim}
-use mathlib.Core.Path.{_≡_, refl, sym, ap, ap₂, subst, _∙_}
+use mathlib.Core.Bool.{Bool, true, false}
+use mathlib.Core.Path.{_≡_, refl, sym, ap, subst, _∙_}
 use mathlib.Core.List.{List, [], _∷_}
 use Prim.Native.Nat.{ℕ, _+_, _*_, _%_, _<_}
 use native.Mathlib.Omega.{arith}
 use lib.Dec.{eqb}
 use lib.ListN.{length, getD}
-use Rattle.law.specs.Words.{when, Every, oneOf, Piece, laid}
-use Rattle.law.specs.Sheet.{PduType, enhanced, short, Sheet, WellFormed, GoodLength, sheetOctets}
-use Rattle.law.specs.State.{link, rsn, communicationLatch, validState}
-use Rattle.law.specs.Table.{Row, tableOf, table, shortTable}
-use Rattle.law.specs.Exchange.{Fate, code, wdt, mn, missed, judged, fateOf, rwdtFor, lowStatus, headFor, stateAfter, replyFor}
-use Rattle.law.specs.Calls.{done}
+use Rattle.law.specs.Words.{when, Every, oneOf, laid}
+use Rattle.law.specs.Sheet.{PduType, short, Sheet, GoodLength, sheetOctets}
+use Rattle.law.specs.State.{link, rsn, validState}
+use Rattle.law.specs.Table.{Row, tableOf, table}
+use Rattle.law.specs.Exchange.{code, wdt, missed, fateOf, rwdtFor, headFor, stateAfter, replyFor}
 use Rattle.slave.specs.Answers.{told}
 use Rattle.slave.specs.Exchange.{Left, left, exchangeOf}
 use Rattle.demands.specs.Accepted.{accepted}

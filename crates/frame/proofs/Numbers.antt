@@ -1,5 +1,4 @@
 -- The numbers of both types, as far as proofs lean on them.
-use mathlib.Core.Path.{_≡_, refl}
 use Prim.Native.Nat.{ℕ, _+_, _-_, _≤_, _<_}
 use native.Mathlib.Omega.{arith}
 use Rattle.machine.specs.declared.words.Carrier.{Carrier}

@@ -1,5 +1,5 @@
 -- Records that are cut from octets are the writing of what they hold; lists of octets.
-use mathlib.Core.Bool.{Bool, true, false, _||_, and-eq-true-iff, true≢false}
+use mathlib.Core.Bool.{true, false, and-eq-true-iff, true≢false}
 use mathlib.Core.Logic.{_⊎_, inl, inr, ⊎-elim}
 use mathlib.Core.Path.{_≡_, refl, sym, ap, _∙_}
 use mathlib.Core.List.{List, [], _∷_, _++_}
@@ -19,9 +19,8 @@ use Rattle.regions.specs.declared.Region.{Region}
 use Rattle.regions.specs.declared.Right.the-variants.{Mapped}
 use Rattle.regions.proofs.Bounds.{holds-bounds}
 use Rattle.sheet.specs.Entries.{parameterFrom}
-use Rattle.sheet.specs.Kinds.{isLength}
 use Rattle.law.specs.Words.{Every, Some, octet}
-use Rattle.law.specs.Sheet.{FiveLengths, IsOctet, InRegion, regionOctets, parameterOctets, itemOctets, toleranceOctets, room}
+use Rattle.law.specs.Sheet.{IsOctet, InRegion, regionOctets, parameterOctets, itemOctets, toleranceOctets, room}
 use Rattle.law.proofs.Written.{two-octets, four-octets, opened}
 use Rattle.law.proofs.Layouts.{asArea, asParam, identFrom}
 

@@ -2,7 +2,7 @@
 use mathlib.Core.Bool.{Bool, true, false, not, _&&_, _||_, true≢false, and-eq-true-iff}
 use mathlib.Core.Logic.{_⊎_, inl, inr, ⊎-elim}
 use mathlib.Core.Path.{_≡_, refl, sym, ap, ap₂, subst, _∙_}
-use Prim.Native.Nat.{ℕ, _<_}
+use Prim.Native.Nat.{ℕ}
 use native.Mathlib.Omega.{arith}
 use borrow.Author.Tests.{eqb-true, eq-eqb, ne-eqb}
 use lib.Dec.{eqb}
@@ -11,8 +11,6 @@ use Rattle.octets.proofs.Cases.{eq-or-ne}
 use Rattle.octets.proofs.Pick.{pick-yes, pick-no, pick-eq, pick-ne}
 use Rattle.sheet.specs.Kinds.{isLength, isKind, isLink, lengthFits}
 use Rattle.sheet.specs.Walk.{formOf}
-use Rattle.sheet.specs.declared.walk.Form.{Form}
-use Rattle.sheet.specs.declared.walk.Form.the-variants.{Enhanced, Short}
 use Rattle.law.specs.Sheet.{PduType, enhanced, short, FiveLengths, GoodLength, IsOctet, linkKind}
 use Rattle.law.proofs.Layouts.{formFor}
 

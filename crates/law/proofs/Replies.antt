@@ -9,7 +9,6 @@ use borrow.Author.Tests.{ltb-true, eqb-true, ne-eqb}
 use lib.Dec.{eqb, ltb}
 use lib.ListN.{length, getD, replicate, length-replicate, getD-replicate}
 use lib.Seq.{ext-getD}
-use Rattle.octets.specs.Pick.{pick}
 use Rattle.octets.proofs.Cases.{eq-or-ne}
 use Rattle.frame.specs.Body.{replyOf, Fitting}
 use Rattle.frame.specs.Fields.{commandOf}
@@ -18,7 +17,7 @@ use Rattle.frame.specs.Places.{Sized}
 use Rattle.frame.proofs.Bodies.{laidAt}
 use Rattle.frame.proofs.Named.{named, command-named, is-enhanced, is-short}
 use Rattle.frame.proofs.Replies.{begunAt, begun-enhanced, begun-short, rwdtTold, lowTold, headTold, rwdt-is, head-is, headIn, whole, reply-at}
-use Rattle.law.specs.Words.{when, Piece, laid, over}
+use Rattle.law.specs.Words.{when, laid, over}
 use Rattle.law.specs.Sheet.{PduType, enhanced, short, Sheet, allows}
 use Rattle.law.specs.Table.{Check, Row, table, tableOf}
 use Rattle.law.specs.Exchange.{Fate, code, wdt, mn, identity, refused, checked, judged, fateOf, stateAfter, rwdtFor, lowStatus, headFor, replyFor, tolerated, lost}

@@ -1,6 +1,6 @@
 -- `frame::body::fill_body` meets its contract, effect by effect.
 use Prim.Native.Nat.{ℕ, _-_}
-use mathlib.Core.Path.{ap, ap₂, subst, _∙_}
+use mathlib.Core.Path.{ap, subst, _∙_}
 use native.Mathlib.Omega.{arith}
 use borrow.Author.Needs.{needs}
 use lib.ListN.{length}
