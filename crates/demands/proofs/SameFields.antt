@@ -121,7 +121,7 @@ module _ (h : Sheet) (s m c d : List ℕ) (sixteen : h .l ≡ 16) (same : SameFi
   written : code c ≡ 0x02 → Every Holds (nth shorts 2 .checks) → nth shorts 2 .stores ≡ nth enhanceds 2 .stores
   written e all =
       let p : Parameter = parameter low s m c in
-      let own = sized _ (p .size) _ _ (eqb-true _ (p .size) (all .1 .0)) (same .data-octets e) in
+      let own = sized _ (p .size) _ _ (eqb-true _ (p .size) (all .1 .0)) (same .data-octets e (all .1 .1 .0)) in
       ap (λ (o : List ℕ). piece (p .address) o ∷ []) own
       ∙ ap (λ (q : Parameter). piece (q .address) (take (q .size) (drop 8 d)) ∷ []) (ap (parameterOf (h .parameters)) (same .numbers (ap (λ (n : ℕ). oneOf n (0x01 ∷ 0x02 ∷ [])) e)))
     where

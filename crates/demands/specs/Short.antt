@@ -4,7 +4,7 @@ use Prim.Native.Nat.{ℕ, _+_, _*_, _%_}
 use mathlib.Core.Bool.{true, false}
 use mathlib.Core.List.{List, [], _∷_}
 use mathlib.Core.Path.{_≡_}
-use lib.Dec.{eqb}
+use lib.Dec.{eqb, leb}
 use lib.ListN.{length, getD, take, drop}
 use Rattle.law.specs.Words.{when, oneOf, octet, numberAt}
 use Rattle.law.specs.Sheet.{PduType, enhanced, short, Sheet, IsOctet, sheetOctets}
@@ -77,10 +77,10 @@ InBothTypes k = oneOf k (0x00 ∷ 0x01 ∷ 0x02 ∷ 0x03 ∷ 0x05 ∷ 0x06 ∷ 0
 pub record SameFields (h : Sheet) (c d : List ℕ) : Type 0 where
   pub codes : octet c 0 ≡ octet d 0
   pub wdts : octet c 15 ≡ octet d 1
-  -- PRM_RD, PRM_WR: number and size; PRM_WR: the data
+  -- PRM_RD, PRM_WR: number and size; PRM_WR: the data, of at most the 8 octets that the short type has for it
   pub numbers : oneOf (octet c 0) (0x01 ∷ 0x02 ∷ []) ≡ true → numberAt c 4 2 ≡ numberAt d 4 2
   pub sizes : oneOf (octet c 0) (0x01 ∷ 0x02 ∷ []) ≡ true → octet c 6 ≡ octet d 6
-  pub data-octets : octet c 0 ≡ 0x02 → take (octet c 6) (drop 7 c) ≡ take (octet c 6) (drop 8 d)
+  pub data-octets : octet c 0 ≡ 0x02 → leb (octet c 6) 8 ≡ true → take (octet c 6) (drop 7 c) ≡ take (octet c 6) (drop 8 d)
   -- ID_RD: code, offset, size
   pub items : octet c 0 ≡ 0x03 → (octet c 4 ≡ octet d 4) × (octet c 5 ≡ octet d 5) × (octet c 6 ≡ numberAt d 6 2)
   -- ALM_RD, ALM_CLR: mode
