@@ -25,7 +25,7 @@ use Rattle.demands.specs.Refused.{RefusedChangesNothing, StatesStayValid
 use Rattle.demands.specs.Replays.{TracesHaveReplies, AgreesExactly, ReplayIsFold, CutInTwo, FormsJoin, ReplayCutInTwo, SecretsInReplay, OnlyAgreeingReach, ReplayPlays, RecordsAreAnswered, SecretsInWholeReplay, RefusedReplayWritesNothing}
 use Rattle.demands.specs.Sequences.{Call, runOf, History}
 use Rattle.demands.specs.Short.{ShortReplies, NoMemoryCommands, ProfileIsNotChecked, SameFieldsSameFate}
-use Rattle.demands.specs.ShortBench.{ShortCases, ShortByLaw}
+use Rattle.demands.specs.ShortRefused.{ShortCases, ShortByLaw}
 use Rattle.demands.specs.Tolerated.{SoManyInARow, NoneWithout, OneIsTolerated, PassingCountsNone, OldRecordsTurn}
 use Rattle.demands.specs.Unique.{OneAnswers}
 use Rattle.demands.specs.Watchdog.{BothAreAsked, SameSnFails, MasterNeverFails}

@@ -19,3 +19,4 @@ pub mod Unique
 pub mod Bench
 pub mod LawBench
 pub mod ShortBench
+pub mod ShortRefused
