@@ -184,12 +184,15 @@ module _ (h : Sheet) (s m c : List ℕ) (good : GoodLength (h .pdu) (h .l)) wher
       let ps = headFor short h c (f .alarm) t in
       lies-below (pieceAt ps 1) k (lies (pieceAt ps 0) k 0) (l .1) ∙ lies-past (pieceAt ps 0) k 0 (l .0)
 
+  pub seen-body : (k : ℕ) → InBody (h .pdu) k → k < h .l → getD reply k 0 ≡ laid (f .body) k 0
+  seen-body k l u = seen-at k u ∙ ap (laid (f .body) k) (head-past (h .pdu) k l)
+
   pub seen-zero : f .body ≡ [] → (k : ℕ) → InBody (h .pdu) k → getD reply k 0 ≡ 0
   unfolding laid
   seen-zero none k l =
       let w = seen-whole in
       ⊎-elim
-      (λ (u : k < h .l). seen-at k u ∙ ap (λ (ps : List Piece). laid ps k (laid head k 0)) none ∙ head-past (h .pdu) k l)
+      (λ (u : k < h .l). seen-body k l u ∙ ap (λ (ps : List Piece). laid ps k 0) none)
       (λ (u : h .l ≤ k). List·getD-eq-default reply 0 {n = k} (omega arith))
       (lt-or-le k (h .l))
 

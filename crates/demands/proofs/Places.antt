@@ -159,7 +159,7 @@ first-failed-is-told h sheet s m c r a go =
     each h sheet s m c r a go (table h s m c) (named h s m c) (row-of s (code c) (table h s m c) (in-both h s m c (λ rs. Unlike s (code c) rs ≡ true) refl refl))
 
 -- a code that no row has
-none-judges : (s : List ℕ) (k : ℕ) (rs : List Row) → Every (λ (r : Row). k ≡ r .code → ⊥) rs → judged s k rs ≡ refused s 8 0
+pub none-judges : (s : List ℕ) (k : ℕ) (rs : List Row) → Every (λ (r : Row). k ≡ r .code → ⊥) rs → judged s k rs ≡ refused s 8 0
 unfolding judged
 none-judges s k [] all = refl
 none-judges s k (r ∷ rs) all = when-no _ _ (ne-eqb k (r .code) (all .0)) ∙ none-judges s k rs (all .1)

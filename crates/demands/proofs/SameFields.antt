@@ -1,5 +1,5 @@
 -- Request 7: commands of the two types with the same fields come to the same alarm, state and stored octets.
---     rows-alike       each row that both tables have
+--     rows-alike       each row that both tables have, and a code that neither has
 --     fate-alike       and so the whole fate
 use mathlib.Core.Bool.{Bool, true, false, not, _&&_, _||_}
 use mathlib.Core.Path.{_≡_, refl, sym, ap, ap₂, subst, _∙_}
@@ -22,8 +22,9 @@ use Rattle.slave.specs.Answers.{told}
 use Rattle.slave.specs.Exchange.{Left}
 use Rattle.demands.specs.Answered.{alarmIn}
 use Rattle.demands.specs.Places.{Holds, allChecks}
-use Rattle.demands.specs.Short.{typed, InBothTypes, SameFields, SameFieldsSameFate}
+use Rattle.demands.specs.Short.{typed, NoMemoryCode, SameFields, SameFieldsSameFate}
 use Rattle.demands.proofs.Done.{answered-done, seen-alarm}
+use Rattle.demands.proofs.Places.{none-judges}
 
 -- two fates that leave the same but for the reply's body
 record Alike (f g : Fate) : Type 0 where
@@ -105,7 +106,7 @@ module _ (h : Sheet) (s m c d : List ℕ) (sixteen : h .l ≡ 16) (same : SameFi
 
   -- what a code's row says is the same in both, where the command has that code
   abbrev Same : ℕ → Type 0
-  Same k = code c ≡ k → InBothTypes k → Alike (judged s k shorts) (judged s k enhanceds)
+  Same k = code c ≡ k → NoMemoryCode k → Alike (judged s k shorts) (judged s k enhanceds)
 
   -- a row by the checks that judge it, its link among them
   row-alike : (k : ℕ) (r q : Row) (ls more : List Check) → judged s k shorts ≡ checked s (allChecks s r) r → judged s k enhanceds ≡ checked s ls q
@@ -148,16 +149,18 @@ module _ (h : Sheet) (s m c d : List ℕ) (sixteen : h .l ≡ 16) (same : SameFi
       (λ e b. row-alike 0x0D (nth shorts 6) (nth enhanceds 6) (allChecks s (nth enhanceds 6)) [] refl refl refl tt (λ all. record { changes = refl; stores = refl }))
       (λ e b. row-alike 0x0E (nth shorts 7) (nth enhanceds 7) (allChecks s (nth enhanceds 7)) (drop 3 (nth enhanceds 7 .checks)) refl refl (λ i. check (oneOf (link s) (nth shorts 7 .links)) 12 0 ∷ conChecks h (sym (same .connections e .0) i) (sym (same .connections e .1) i) (sym (same .connections e .2) i) ++ drop 3 (nth enhanceds 7 .checks)) (eq-eqb _ (h .profile) (same .connections e .3), tt) (λ all. record { changes = λ i. conChanges (same .connections e .1 i) (same .connections e .2 i); stores = refl }))
       (λ e b. row-alike 0x0F (nth shorts 8) (nth enhanceds 8) (allChecks s (nth enhanceds 8)) [] refl refl refl tt (λ all. record { changes = refl; stores = refl }))
-      (λ e b. never b)
-      (λ e b. never b)
-      (λ n z0 z1 z2 z3 z4 z5 z6 z7 z8 z9 z10 e b. never (sym (ap₂ _||_ (ne-eqb n 0x00 z0) (ap₂ _||_ (ne-eqb n 0x01 z1) (ap₂ _||_ (ne-eqb n 0x02 z2) (ap₂ _||_ (ne-eqb n 0x03 z3) (ap₂ _||_ (ne-eqb n 0x05 z4) (ap₂ _||_ (ne-eqb n 0x06 z5) (ap₂ _||_ (ne-eqb n 0x0D z6) (ap₂ _||_ (ne-eqb n 0x0E z7) (ap₂ _||_ (ne-eqb n 0x0F z8) (refl)))))))))) ∙ b))
+      (λ e b. never (sym b))
+      (λ e b. never (sym b))
+      (λ n z0 z1 z2 z3 z4 z5 z6 z7 z8 z9 z10 e b.
+      subst (λ (f : Fate). Alike f (judged s n enhanceds)) (sym (none-judges s n shorts (z0, (z1, (z2, (z3, (z4, (z5, (z6, (z7, (z8, tt)))))))))))
+      (subst (λ (f : Fate). Alike (refused s 8 0) f) (sym (none-judges s n enhanceds (z0, (z1, (z2, (z3, (z4, (z5, (z6, (z7, (z8, (z9, (z10, tt))))))))))))) (itself (refused s 8 0))))
 
   -- check 1 goes by WDT alone
   missed-alike : missed low s c ≡ missed high s d
   missed-alike =
       ap (λ (w : ℕ). eqb (link s) 3 && (eqb (mnKnown s) 1 && not (eqb (w % 16) ((lastMn s + 1) % 16) && eqb (w / 16) (rsn s)))) (same .wdts)
 
-  fate-alike : InBothTypes (code c) → Alike (fateOf low s m c) (fateOf high s m d)
+  fate-alike : NoMemoryCode (code c) → Alike (fateOf low s m c) (fateOf high s m d)
   unfolding fateOf when
   fate-alike both =
       let j : Alike (judged s (code c) shorts) (judged s (code d) enhanceds) =

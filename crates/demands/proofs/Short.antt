@@ -14,10 +14,10 @@ use Rattle.law.specs.Exchange.{code, wdt, missed, fateOf, rwdtFor, headFor, sta
 use Rattle.slave.specs.Answers.{told}
 use Rattle.slave.specs.Exchange.{Left, left, exchangeOf}
 use Rattle.demands.specs.Accepted.{accepted}
-use Rattle.demands.specs.Answered.{Answered, alarmIn}
+use Rattle.demands.specs.Answered.{Answered, alarmIn, InBody}
 use Rattle.demands.specs.Short.{ShortReply, ShortReplies, NoMemoryCommands, withProfile, ProfileIsNotChecked}
 use Rattle.demands.specs.Watchdog.{rwdtOf, rwdt}
-use Rattle.demands.proofs.Done.{lawful, answered-done, seen-whole, seen-code, seen-head, seen-rwdt}
+use Rattle.demands.proofs.Done.{lawful, answered-done, seen-whole, seen-code, seen-head, seen-body, seen-rwdt}
 use Rattle.demands.proofs.OnTheWire.{refused-on-the-wire}
 use Rattle.demands.proofs.Pieces.{headSize}
 use Rattle.demands.proofs.Places.{unknown-code-is-told}
@@ -43,6 +43,10 @@ module _ (h : Sheet) (sheet s m c r : List ℕ) (is-short : h .pdu ≡ short) (a
       ∙ ap (λ (t : List ℕ). rwdtFor h c t) (sym (ap (λ (y : Left). y .state) is))
       ∙ ap (λ (p : PduType). when (eqb (link (x .state)) 3) (16 * rsn (x .state) + wdt p c % 16) 0) is-short
 
+  -- every octet of the body is one of the reply's
+  within : (k : ℕ) → k < 15 → k < h .l
+  within k u = let e = subst (λ (p : PduType). GoodLength p (h .l)) is-short (a .good .l) in omega arith
+
   pub reply-is : ShortReply h s m c x
   unfolding laid when
   reply-is = record {
@@ -51,6 +55,7 @@ module _ (h : Sheet) (sheet s m c r : List ℕ) (is-short : h .pdu ≡ short) (a
     alarm = head-at 1 (omega arith);
     low-status = head-at 2 (omega arith);
     high-status = head-at 3 (omega arith);
+    body = λ k l u. ap (λ (y : Left). getD (y .reply) k 0) is ∙ seen-body h s m c (a .good .l) k (subst (λ (p : PduType). InBody p k) (sym is-short) (l, u)) (within k u);
     rwdt-last = rwdt-at;
   }
 

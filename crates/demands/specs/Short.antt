@@ -1,19 +1,19 @@
 -- Document 02, request 7: "A bakery keeps drives that speak the 16-octet short type of source document 002, 4.3.1 .. We need the same slave for it, without MEM_RD
 -- and MEM_WR." A sheet selects it by its link record; demands 1 to 3 and the other requests speak of both types.
-use Prim.Native.Nat.{ℕ, _+_, _*_, _%_}
+use Prim.Native.Nat.{ℕ, _+_, _*_, _%_, _≤_, _<_}
 use mathlib.Core.Bool.{true, false}
 use mathlib.Core.List.{List, [], _∷_}
 use mathlib.Core.Path.{_≡_}
 use lib.Dec.{eqb, leb}
 use lib.ListN.{length, getD, take, drop}
-use Rattle.law.specs.Words.{when, oneOf, octet, numberAt}
+use Rattle.law.specs.Words.{when, oneOf, octet, numberAt, laid}
 use Rattle.law.specs.Sheet.{PduType, enhanced, short, Sheet, IsOctet, sheetOctets}
 use Rattle.law.specs.State.{link, rsn, communicationLatch}
 use Rattle.law.specs.Exchange.{code, missed, fateOf, lowStatus}
 use Rattle.slave.specs.Exchange.{Left, exchangeOf}
 use Rattle.demands.specs.Answered.{Answered, alarmIn}
 
--- "in the reply code, alarm, two octets of status, 11 of body, RWDT last"; the body is the table's
+-- "in the reply code, alarm, two octets of status, 11 of body, RWDT last"
 pub record ShortReply (h : Sheet) (state memory command : List ℕ) (l : Left) : Type 0 where
   pub sixteen : length (l .reply) ≡ 16
   pub code-again : getD (l .reply) 0 0 ≡ getD command 0 0
@@ -22,6 +22,8 @@ pub record ShortReply (h : Sheet) (state memory command : List ℕ) (l : Left) :
   -- "the communication latch in bits 12 to 15 of the status, bits 0 and 2 as before, the others 0; no identity is echoed"; bit 1 is request 9's
   pub low-status : getD (l .reply) 2 0 ≡ lowStatus (l .state)
   pub high-status : getD (l .reply) 3 0 ≡ 16 * communicationLatch (l .state)
+  -- the pieces of its row, and zero where these name nothing
+  pub body : (k : ℕ) → 4 ≤ k → k < 15 → getD (l .reply) k 0 ≡ laid (fateOf h state memory command .body) k 0
   pub rwdt-last : getD (l .reply) 15 0 ≡ when (eqb (link (l .state)) 3) (16 * rsn (l .state) + getD command 15 0 % 16) 0
 
 abbrev pub ShortReplies : Type 0
@@ -69,9 +71,9 @@ typed pdu h = record {
   tolerances = h .tolerances;
 }
 
--- the codes that both types have
-abbrev pub InBothTypes : ℕ → Type 0
-InBothTypes k = oneOf k (0x00 ∷ 0x01 ∷ 0x02 ∷ 0x03 ∷ 0x05 ∷ 0x06 ∷ 0x0D ∷ 0x0E ∷ 0x0F ∷ []) ≡ true
+-- any code but MEM_RD and MEM_WR, which the enhanced type alone has
+abbrev pub NoMemoryCode : ℕ → Type 0
+NoMemoryCode k = oneOf k (0x1D ∷ 0x1E ∷ []) ≡ false
 
 -- a command of the short type and one of the enhanced type with the same code, WDT and fields; the enhanced one has the sheet's profile
 pub record SameFields (h : Sheet) (c d : List ℕ) : Type 0 where
@@ -94,6 +96,6 @@ abbrev pub SameFieldsSameFate : Type 0
 SameFieldsSameFate =
     (h : Sheet) (state memory c d r q : List ℕ)
     → Answered (typed short h) (sheetOctets (typed short h)) state memory c r → Answered (typed enhanced h) (sheetOctets (typed enhanced h)) state memory d q
-    → SameFields h c d → InBothTypes (code c)
+    → SameFields h c d → NoMemoryCode (code c)
     → (let x = exchangeOf (sheetOctets (typed short h)) state memory c r in let y = exchangeOf (sheetOctets (typed enhanced h)) state memory d q in
     (alarmIn (typed short h) (x .reply) ≡ alarmIn (typed enhanced h) (y .reply)) × (x .answer ≡ y .answer) × (x .state ≡ y .state) × (x .memory ≡ y .memory))
