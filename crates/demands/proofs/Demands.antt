@@ -25,6 +25,7 @@ use Rattle.demands.proofs.Short.{short-replies, no-memory-commands, pro
 use Rattle.demands.proofs.ShortBench.{short-cases, short-by-law}
 use Rattle.demands.proofs.Shut.{refuses-all-is-shut-out, single-reply-is-shut-out, stores-nothing-is-shut-out, echoes-afterwards-is-shut-out, invents-rsn-is-shut-out}
 use Rattle.demands.proofs.Unique.{one-answers}
+use Rattle.demands.proofs.Unnamed.{others-are-ignored}
 use Rattle.demands.proofs.Tolerated.{so-many-in-a-row, none-without, one-is-tolerated, passing-counts-none}
 use Rattle.demands.proofs.Turned.{old-records-turn}
 use Rattle.demands.proofs.Watchdog.{both-are-asked, same-sn-fails, master-never-fails}
@@ -102,6 +103,7 @@ request-7 = record {
   replies-of-the-short-type = short-replies;
   without-the-memory-commands = no-memory-commands;
   the-profile-is-not-checked = profile-is-not-checked;
+  of-other-octets-nothing-shows = others-are-ignored;
   the-same-fields-come-to-the-same = same-fields-same-fate;
   cases = short-cases;
   cases-by-the-law = short-by-law;

@@ -22,6 +22,7 @@ pub mod Watchdog
 pub mod Tolerated
 pub mod Short
 pub mod SameFields
+pub mod Unnamed
 pub mod Turned
 pub mod Shut
 pub mod Replays

@@ -1,12 +1,12 @@
 -- Request 7: commands of the two types with the same fields come to the same alarm, state and stored octets.
 --     rows-alike       each row that both tables have, and a code that neither has
 --     fate-alike       and so the whole fate
-use mathlib.Core.Bool.{Bool, true, false, not, _&&_, _||_}
+use mathlib.Core.Bool.{Bool, true, false, not, _&&_}
 use mathlib.Core.Path.{_≡_, refl, sym, ap, ap₂, subst, _∙_}
 use mathlib.Core.List.{List, [], _∷_, _++_, map}
 use Prim.Native.Nat.{ℕ, _+_, _-_, _/_, _%_}
 use native.Mathlib.Omega.{arith}
-use borrow.Author.Tests.{ne-eqb, le-leb, eq-eqb, eqb-true}
+use borrow.Author.Tests.{le-leb, eq-eqb, eqb-true}
 use lib.Dec.{eqb, leb}
 use lib.ListN.{take, drop}
 use Rattle.law.specs.Words.{when, implies, bit, Every, oneOf, Piece, piece}
@@ -62,7 +62,7 @@ module _ (s : List ℕ) where
   by-checks ks ls more r q e all go = subst (λ (l : List Check). Alike (checked s ks r) (checked s l q)) (sym e) (checked-alike ks more r q all go)
 
 -- the checks of a row, by the values of its fields
-abbrev prmChecks : Sheet → ℕ → ℕ → ℕ → (ℕ → Bool) → List Check
+abbrev pub prmChecks : Sheet → ℕ → ℕ → ℕ → (ℕ → Bool) → List Check
 prmChecks h number size most right =
     check (oneOf number (map (λ (p : Parameter). p .number) (h .parameters))) 9 4
     ∷ check (eqb size (parameterOf (h .parameters) number .size)) 9 6
@@ -70,7 +70,7 @@ prmChecks h number size most right =
     ∷ rightsCheck right (cells (h .regions)) (parameterOf (h .parameters) number .address) (parameterOf (h .parameters) number .size)
     ∷ []
 
-abbrev idChecks : Sheet → ℕ → ℕ → ℕ → ℕ → List Check
+abbrev pub idChecks : Sheet → ℕ → ℕ → ℕ → ℕ → List Check
 idChecks h item offset size most =
     check (oneOf item (map (λ (i : Item). i .code) (h .items))) 9 4
     ∷ check (leb 1 size) 9 6
@@ -78,14 +78,14 @@ idChecks h item offset size most =
     ∷ check (leb size most) 9 6
     ∷ []
 
-abbrev conChecks : Sheet → ℕ → ℕ → ℕ → List Check
+abbrev pub conChecks : Sheet → ℕ → ℕ → ℕ → List Check
 conChecks h version mode time =
     check (eqb version (h .version)) 9 4
     ∷ check (comMod mode) 9 5
     ∷ check (leb 1 time && implies (bit mode 2) (leb 2 time)) 9 6
     ∷ []
 
-abbrev conChanges : ℕ → ℕ → List Piece
+abbrev pub conChanges : ℕ → ℕ → List Piece
 conChanges mode time = piece 1 (when (bit mode 1) 3 2 ∷ []) ∷ piece 3 (when (bit mode 2) 1 0 ∷ []) ∷ piece 4 (time ∷ []) ∷ []
 
 module _ (h : Sheet) (s m c d : List ℕ) (sixteen : h .l ≡ 16) (same : SameFields h c d) where

@@ -24,7 +24,7 @@ use Rattle.demands.specs.Places.{FirstFailedIsTold, UnknownCodeIsTold, O
 use Rattle.demands.specs.Refused.{RefusedChangesNothing, StatesStayValid}
 use Rattle.demands.specs.Replays.{TracesHaveReplies, AgreesExactly, ReplayIsFold, CutInTwo, FormsJoin, ReplayCutInTwo, SecretsInReplay, OnlyAgreeingReach, ReplayPlays, RecordsAreAnswered, SecretsInWholeReplay, RefusedReplayWritesNothing}
 use Rattle.demands.specs.Sequences.{Call, runOf, History}
-use Rattle.demands.specs.Short.{ShortReplies, NoMemoryCommands, ProfileIsNotChecked, SameFieldsSameFate}
+use Rattle.demands.specs.Short.{ShortReplies, NoMemoryCommands, ProfileIsNotChecked, OthersAreIgnored, SameFieldsSameFate}
 use Rattle.demands.specs.ShortRefused.{ShortCases, ShortByLaw}
 use Rattle.demands.specs.Tolerated.{SoManyInARow, NoneWithout, OneIsTolerated, PassingCountsNone, OldRecordsTurn}
 use Rattle.demands.specs.Unique.{OneAnswers}
@@ -129,15 +129,16 @@ pub record Request6 : Type 0 where
   -- "and for demand 3 a write of that record reached nothing"
   pub a-differing-record-reaches-nothing : OnlyAgreeingReach
 
--- Document 02, request 7, "Older drives with the short type". Demands 1 to 3, the bench cases and the other requests above and below are of the machine that speaks
--- both types; each is one statement over both.
+-- Document 02, request 7, "Older drives with the short type". Demands 1 to 3 and the other requests above and below are of the machine that speaks both types; each
+-- is one statement over both.
 pub record Request7 : Type 0 where
-  -- octet by octet, what stands in a reply of the short type outside its body
+  -- octet by octet, what stands in a reply of the short type
   pub replies-of-the-short-type : ShortReplies
   -- "without MEM_RD and MEM_WR"
   pub without-the-memory-commands : NoMemoryCommands
   -- "one not there isn't checked"
   pub the-profile-is-not-checked : ProfileIsNotChecked
+  pub of-other-octets-nothing-shows : OthersAreIgnored
   -- "States, watchdog, rights and latches are those of the enhanced type"
   pub the-same-fields-come-to-the-same : SameFieldsSameFate
   -- cases of our own, at least one for each code and each alarm, by the machine and by the law alone

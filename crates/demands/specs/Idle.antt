@@ -80,7 +80,7 @@ echoesAfterwards sheet state memory (Exchange command reply ∷ cs) =
     exchangeOf sheet state memory command reply
     ∷ echoes (exchangeOf sheet state memory command reply .state) (exchangeOf sheet state memory command reply .memory) cs
 
--- one that invents RSN: it works as the machine does, and puts RSN 15 into every reply
+-- one that invents RSN: it works as the machine does, and puts RSN 15 into every reply of the enhanced type; in the short type the same octet is the alarm
 abbrev pub inventing : Left → Left
 inventing l = left (l .answer) (l .state) (l .memory) (set (l .reply) 1 0xF0)
 

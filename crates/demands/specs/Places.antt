@@ -109,7 +109,7 @@ pub record Asked : Type 0 where
 abbrev pub asked : ℕ → (ℕ → Bool) → ℕ → ℕ → Asked
 asked code right address size = record { code = code; right = right; address = address; size = size }
 
--- PRM_RD, PRM_WR, MEM_RD, MEM_WR
+-- PRM_RD, PRM_WR, MEM_RD, MEM_WR; the short type has not the last two, and so no alarm 10 of them
 abbrev pub askedSpans : Sheet → List ℕ → List ℕ → List ℕ → List Asked
 askedSpans h s m c =
     asked 0x01 readable (parameter h s m c .address) (parameter h s m c .size)

@@ -58,6 +58,23 @@ ProfileIsNotChecked =
     → Answered (withProfile h profile) (sheetOctets (withProfile h profile)) state memory command reply
     → exchangeOf (sheetOctets (withProfile h profile)) state memory command reply ≡ exchangeOf (sheetOctets (withProfile h other)) state memory command reply
 
+-- two commands that have the same in the octets that the short type names: the code, WDT, and the fields of that code
+pub record SameNamed (c d : List ℕ) : Type 0 where
+  pub long : length c ≡ length d
+  pub codes : octet c 0 ≡ octet d 0
+  pub wdts : octet c 15 ≡ octet d 15
+  -- PRM_RD, PRM_WR, ID_RD, CONNECT: 4 to 6; PRM_WR: the data from 7 on
+  pub fields : oneOf (octet c 0) (0x01 ∷ 0x02 ∷ 0x03 ∷ 0x0E ∷ []) ≡ true → (k : ℕ) → 4 ≤ k → k < 7 → octet c k ≡ octet d k
+  pub data-octets : octet c 0 ≡ 0x02 → (k : ℕ) → 7 ≤ k → k < 15 → octet c k ≡ octet d k
+  -- ALM_RD, ALM_CLR: 4
+  pub modes : oneOf (octet c 0) (0x05 ∷ 0x06 ∷ []) ≡ true → octet c 4 ≡ octet d 4
+
+-- of a command's other octets, a profile's among them, nothing shows
+abbrev pub OthersAreIgnored : Type 0
+OthersAreIgnored =
+    (h : Sheet) (sheet state memory c d reply : List ℕ) → h .pdu ≡ short → Answered h sheet state memory c reply → SameNamed c d
+    → exchangeOf sheet state memory c reply ≡ exchangeOf sheet state memory d reply
+
 -- a sheet with another type, the rest of it as it is
 abbrev pub typed : PduType → Sheet → Sheet
 typed pdu h = record {

@@ -178,11 +178,12 @@ module _ (h : Sheet) (s m c : List ℕ) where
       -- ALM_RD (4.3.1.6): 4 mode, of one octet; "Of the ALM_RD reply's two alm_data fields the first is the mode, the second begins with both latches,
       -- command first": the mode, at 4, is zero, and so is what is unnamed there
       ∷ row 0x05 (2 ∷ 3 ∷ []) (check (eqb (octet c 4) 0) 9 4 ∷ []) [] (piece 5 (commandLatch s ∷ communicationLatch s ∷ []) ∷ []) []
-      -- ALM_CLR (4.3.1.7): 4 mode
+      -- ALM_CLR (4.3.1.7): 4 mode; where the reply has the mode again, by 4.3.2.7, it is zero too
       ∷ row 0x06 (2 ∷ 3 ∷ []) (check (eqb (octet c 4) 0) 9 4 ∷ []) (piece 8 (0 ∷ []) ∷ piece 9 (0 ∷ []) ∷ []) [] []
-      -- SYNC_SET (4.3.1.8)
+      -- SYNC_SET (4.3.1.8, which our copy of 002 lacks; by 4.3.2.8 and 4.3.3.8 it has no body)
       ∷ row 0x0D (2 ∷ []) [] (piece 1 (3 ∷ []) ∷ piece 3 (0 ∷ []) ∷ []) [] []
-      -- CONNECT (4.3.1.9, whose page our copy of 002 lacks; 4.3.3.9 says what it has): 4 version, 5 com_mod, 6 com_time, and no profile
+      -- CONNECT (4.3.1.9, of which our copy of 002 has the end alone; 4.3.3.9 says that the profile is all that is enhanced): 4 version, 5 com_mod, 6 com_time,
+      -- and no profile
       ∷ row 0x0E (1 ∷ []) (connectChecks []) connects (again c 4 6 ∷ []) []
       -- DISCONNECT (4.3.1.10)
       ∷ row 0x0F (1 ∷ 2 ∷ 3 ∷ []) [] (piece 1 (1 ∷ []) ∷ piece 4 (0 ∷ []) ∷ []) [] []
