@@ -86,26 +86,36 @@ module _ (h : Sheet) (s m c d : List ℕ) (sixteen : length c ≡ 16) (same : Sa
   abbrev Same : ℕ → Type 0
   Same k = code c ≡ k → judged s k first ≡ judged s k second
 
+  -- an octet, some octets, and all octets from one on, that the two have in common
+  abbrev At : ℕ → Type 0
+  At k = getD c k 0 ≡ getD d k 0
+
+  abbrev Part : ℕ → ℕ → Type 0
+  Part from n = take n (drop from c) ≡ take n (drop from d)
+
+  abbrev From : ℕ → Type 0
+  From from = drop from c ≡ drop from d
+
   module _ (named : oneOf (code c) (0x01 ∷ 0x02 ∷ 0x03 ∷ 0x0E ∷ []) ≡ true) where
-    four : getD c 4 0 ≡ getD d 4 0
+    four : At 4
     four = same .fields named 4 (omega arith) (omega arith)
 
-    five : getD c 5 0 ≡ getD d 5 0
+    five : At 5
     five = same .fields named 5 (omega arith) (omega arith)
 
-    six : getD c 6 0 ≡ getD d 6 0
+    six : At 6
     six = same .fields named 6 (omega arith) (omega arith)
 
-    echo : take 3 (drop 4 c) ≡ take 3 (drop 4 d)
+    echo : Part 4 3
     echo = part-same 4 3 c d (same .long) (same .fields named)
 
   -- the data and WDT, which stands behind it
-  behind : code c ≡ 0x02 → drop 7 c ≡ drop 7 d
+  behind : code c ≡ 0x02 → From 7
   behind e =
       drop-same 7 c d (same .long) (λ k l u. ⊎-elim (λ (v : k < 15). same .data-octets e k l v) (λ (v : 15 ≤ k). last k (omega arith)) (lt-or-le k 15))
     where
-      last : (k : ℕ) → k ≡ 15 → getD c k 0 ≡ getD d k 0
-      last k e = subst (λ (n : ℕ). getD c n 0 ≡ getD d n 0) (sym e) (same .wdts)
+      last : (k : ℕ) → k ≡ 15 → At k
+      last k e = subst At (sym e) (same .wdts)
 
   abbrev fielded : List ℕ
   fielded = 0x01 ∷ 0x02 ∷ 0x03 ∷ 0x0E ∷ []
