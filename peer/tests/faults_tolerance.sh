@@ -220,4 +220,4 @@ fault "the count out of the octet behind the old record" export.rs \
     '/fn \$turn/,/^        }/{s/exported::turn(/(|answer| { if answer == 0 { *state.add(10) = *old.add(10); } answer })(&/;s/^            )$/&)/;}'
 chosen "an octet behind the new record written" export.rs \
     '/fn \$turn/,/^        }/s/lent_mut(state, state_length),/{ if state_length == 11 { *state.add(11) ^= 1; } lent_mut(state, state_length) },/'
-chosen "another version" engine/mod.rs '/^pub fn version/,/^}/s/2$/1/'
+chosen "another version" engine/mod.rs '/^pub fn version/,/^}/s/3$/2/'
