@@ -51,7 +51,7 @@ answered-done h sheet s m c r a =
     let e : leaves (exchanged (sheetOctets h) (layoutFor h) st m c) ≡ lawful h s m c =
     done-same h (a .good) st (q .2) m c (a .whole) (a .asked) (a .enabled) ∙ ap (λ (x : List ℕ). lawful h x m c) (sym (q .1)) in
     ap (λ (x : List ℕ). exchangeOf x s m c r) (a .written)
-    ∙ is-exchanged (sheetOctets h) s m c r (layoutFor h) (complete h (a .good)) st (q .0) (a .whole) (a .asked) (a .lent) (a .enabled)
+    ∙ is-exchanged (sheetOctets h) s m c r (layoutFor h) (complete h (a .good)) st (record { held = q .0; on = a .enabled }) (a .whole) (a .asked) (a .lent)
     ∙ (λ i. left (told 0 (place-of _ _ (ap (λ (x : Result). x .answer) e) i)) (ap (λ (x : Result). x .state) e i) (ap (λ (x : Result). x .memory) e i) (ap (λ (x : Result). x .reply) e i))
 
 bit-small : (b : Bool) → when b 0 1 ≤ 1

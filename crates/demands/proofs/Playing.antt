@@ -14,13 +14,12 @@ use Rattle.link.specs.Stored.{stateOf}
 use Rattle.link.specs.declared.state.LinkState.{LinkState}
 use Rattle.link.specs.declared.stored.Stored.{Stored}
 use Rattle.link.specs.declared.stored.Stored.the-variants.{State, Invalid}
-use Rattle.link.proofs.Back.{read-back, read-valid}
 use Rattle.machine.specs.Outcomes.{outcomeOf}
 use Rattle.sheet.specs.Walk.{verdictOf}
 use Rattle.sheet.specs.declared.walk.Layout.{Layout}
-use Rattle.sheet.proofs.Valid.{tolerance-small}
 use Rattle.slave.specs.Answers.{onState}
-use Rattle.slave.specs.Exchange.{Left, exchanged, exchangeOf}
+use Rattle.slave.specs.Exchange.{Left, exchanged, exchangeOf, Running}
+use Rattle.slave.proofs.Again.{runs-on}
 use Rattle.slave.proofs.Order.{on-valid, on-state}
 use Rattle.replay.specs.Replay.{Replayed, replayed, replayOf}
 use Rattle.replay.specs.Trace.{Traced, recordSize, recordsOf}
@@ -37,7 +36,6 @@ use Rattle.octets.proofs.Overlaid.{part-length}
 use Rattle.demands.proofs.Reached.{secrets-in-replay}
 use Rattle.demands.proofs.Refusals.{by-sheet, by-state}
 use Rattle.demands.proofs.Replays.{Played, ended, differed, agreed, played}
-use Rattle.machine.proofs.Nexts.{outcome-valid, outcome-on}
 
 pub replay-plays : ReplayPlays
 unfolding replayOf
@@ -48,8 +46,11 @@ replay-plays sheet state memory trace lay st p short formed =
 -- an exchange of a whole record is answered, and leaves such a start again
 module _ (sheet state memory command reply : List ℕ) (lay : Layout) (st : LinkState) (p : Playable sheet state memory lay st)
     (asked : length command ≡ lay .l) (lent : length reply ≡ lay .l) where
+  run : Running state lay st
+  run = record { held = p .held; on = p .on }
+
   answers : exchangeOf sheet state memory command reply ≡ exchanged sheet lay st memory command
-  answers = is-exchanged sheet state memory command reply lay (p .valid) st (p .held) (p .whole) asked lent (p .on)
+  answers = is-exchanged sheet state memory command reply lay (p .valid) st run (p .whole) asked lent
 
   answered-zero : exchangeOf sheet state memory command reply .answer .number ≡ 0
   unfolding exchanged
@@ -57,18 +58,13 @@ module _ (sheet state memory command reply : List ℕ) (lay : Layout) (st : Link
 
   pub again : Playable sheet (exchangeOf sheet state memory command reply .state) (exchangeOf sheet state memory command reply .memory) lay
       (outcomeOf sheet lay st (commandOf (lay .form) command) .next)
-  unfolding exchanged
   again =
-      let z = p .on in
-      let facts = read-valid state (lay .l) (lay .tolerance) st (p .held) .1 in
-      let few = tolerance-small sheet lay (p .valid) in
-      let on = outcome-on sheet lay st (commandOf (lay .form) command) (lay .l) facts (omega (arith, z)) in
+      let next = runs-on sheet state memory command lay st (p .valid) run in
       record {
         valid = p .valid;
-        held = ap (λ (x : Left). stateOf (x .state) (lay .l) (lay .tolerance)) answers
-            ∙ read-back _ (lay .l) (lay .tolerance) (outcome-valid sheet lay st (commandOf (lay .form) command) (lay .l) facts (omega (arith, z)) (omega (arith, few)));
+        held = ap (λ (x : Left). stateOf (x .state) (lay .l) (lay .tolerance)) answers ∙ next .held;
         whole = memory-keeps sheet state memory command reply ∙ p .whole;
-        on = λ e. omega (arith, on, e);
+        on = next .on;
       }
 
 each-answered : (sheet : List ℕ) (lay : Layout) (n : ℕ) (rest : List ℕ) → n * recordSize (lay .l) ≤ length rest

@@ -98,7 +98,11 @@ module _ (h : Sheet) (w : WellFormed h) where
       machine-done : leaves (exchangeOf (sheetOctets h) s m c r) ≡ after
       machine-done =
           ap leaves (is-exchanged (sheetOctets h) s m c r (layoutFor h) (complete h w) (ready .st)
-          (ap (λ (x : List ℕ). stateOf x (h .l) (allows h)) (ready .record-of) ∙ read-back (ready .st) (h .l) (allows h) (ready .facts)) (ready .whole) asked lent (ready .on))
+          (record {
+            held = ap (λ (x : List ℕ). stateOf x (h .l) (allows h)) (ready .record-of) ∙ read-back (ready .st) (h .l) (allows h) (ready .facts);
+            on = ready .on;
+          })
+          (ready .whole) asked lent)
           ∙ is-done
 
       same-at : differsAt (exchangeOf (sheetOctets h) s m c r .reply) r ≡ alike (after .reply) r

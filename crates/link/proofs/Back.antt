@@ -1,6 +1,7 @@
 -- What is written reads back.
 --     read-back     the record of a valid state holds that state
---     read-valid    a state that was read is valid
+--     read-fields   a state that was read has the record's fields
+--     read-valid    and is valid
 --     old-valid     so is one that was read from an old record, whose count is 0
 --     written       over eleven octets, writing a state leaves its record
 use mathlib.Core.Bool.{not}
@@ -39,6 +40,14 @@ pub written : (s : List ℕ) (st : LinkState) → length s ≡ 11 → stored s s
 unfolding stored
 written s st e = pick-no _ _ (ap not (eq-eqb (length s) 11 e))
 
+pub read-fields : (s : List ℕ) (l t : ℕ) (st : LinkState) → stateOf s l t ≡ State st → fieldsOf s ≡ st
+unfolding stateOf
+read-fields s l t st e =
+    let p₁ = passed _ no-state e in
+    let p₂ = passed _ no-state (p₁ .1) in
+    let p₃ = passed _ no-state (p₂ .1) in
+    same-state (p₃ .1)
+
 -- a state that was read is valid, and its record has eleven octets
 pub read-valid : (s : List ℕ) (l t : ℕ) (st : LinkState) → stateOf s l t ≡ State st → (length s ≡ 11) × Facts l t st
 unfolding stateOf
@@ -46,7 +55,7 @@ read-valid s l t st e =
     let p₁ = passed _ no-state e in
     let p₂ = passed _ no-state (p₁ .1) in
     let p₃ = passed _ no-state (p₂ .1) in
-    let q : fieldsOf s ≡ st = same-state (p₃ .1) in
+    let q = read-fields s l t st e in
     (eqb-true (length s) 11 (not-false _ (p₁ .0)), subst (λ (x : LinkState). Facts l t x) q (valid-facts (fieldsOf s) l t (not-false _ (p₃ .0))))
 
 -- where no failure is tolerated none is counted, and so any number may be

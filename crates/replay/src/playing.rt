@@ -6,8 +6,10 @@ use slave::answers::Answer;
 ghost use mathlib.Core.Path.{_≡_};
 ghost use Prim.Native.Nat.{ℕ, _*_, _≤_};
 ghost use lib.ListN.{length};
+ghost use Rattle.link.specs.declared.state.LinkState.{LinkState};
 ghost use Rattle.sheet.specs.Walk.{verdictOf};
 ghost use Rattle.sheet.specs.declared.walk.Verdict.the-variants.{Valid};
+ghost use Rattle.slave.specs.Exchange.{Running};
 ghost use Rattle.replay.specs.Trace.{recordSize, tracedOf};
 ghost use Rattle.replay.specs.Replay.{replayed, playOf, replayOf};
 
@@ -20,7 +22,7 @@ fn play(
     trace: &[u8],
     room: &mut [u8],
 ) -> Answer
-    requires { ⌜ (verdictOf (now sheet) ≡ Valid layout) × (length (now memory) ≡ layout .memory) × (length (now room) ≡ layout .l) × (length (now trace) ≤ 1073741823) × ((n : ℕ) × (length (now trace) ≡ n * recordSize (layout .l))) ⌝ }
+    requires { ⌜ (verdictOf (now sheet) ≡ Valid layout) × (length (now memory) ≡ layout .memory) × (length (now room) ≡ layout .l) × (length (now trace) ≤ 1073741823) × ((n : ℕ) × (length (now trace) ≡ n * recordSize (layout .l))) × ((st : LinkState) × Running (now state) layout st) ⌝ }
     ensures { λ r. ⌜ replayed r (now (state .exit)) (now (memory .exit)) ≡ playOf (now (sheet .entry)) (layout .l) 0 (now (state .entry)) (now (memory .entry)) (tracedOf (layout .l) (now (trace .entry))) ⌝ }
 {
     let mut k: u32 = 0;
@@ -52,7 +54,7 @@ fn play_all(
     memory: &mut [u8],
     trace: &[u8],
 ) -> Answer
-    requires { ⌜ (verdictOf (now sheet) ≡ Valid layout) × (length (now memory) ≡ layout .memory) × (length (now trace) ≤ 1073741823) × ((n : ℕ) × (length (now trace) ≡ n * recordSize (layout .l))) ⌝ }
+    requires { ⌜ (verdictOf (now sheet) ≡ Valid layout) × (length (now memory) ≡ layout .memory) × (length (now trace) ≤ 1073741823) × ((n : ℕ) × (length (now trace) ≡ n * recordSize (layout .l))) × ((st : LinkState) × Running (now state) layout st) ⌝ }
     ensures { λ r. ⌜ replayed r (now (state .exit)) (now (memory .exit)) ≡ playOf (now (sheet .entry)) (layout .l) 0 (now (state .entry)) (now (memory .entry)) (tracedOf (layout .l) (now (trace .entry))) ⌝ }
 {
     let mut room = [0u8; 64];

@@ -59,6 +59,11 @@ exchangeOf sheet state memory command reply =
     (left (told (refusalOf lay st (length memory) (length command) (length reply)) 0) state memory reply)
     (exchanged sheet lay st memory command)))
 
+-- a valid state that is not Disabled: what a replay leans on from record to record
+pub record Running (state : List ℕ) (lay : Layout) (st : LinkState) : Type 0 where
+  pub held : stateOf state (lay .l) (lay .tolerance) ≡ State st
+  pub on : st .link ≡ 0 → ⊥
+
 -- a valid sheet, and lists of the lengths that it says: what the code that builds a reply leans on
 pub record Lent (sheet memory command reply : List ℕ) (lay : Layout) : Type 0 where
   pub valid : verdictOf sheet ≡ Valid lay

@@ -34,11 +34,15 @@ fn first_other(reply: &[u8], wanted: &[u8]) -> u8
     i as u8
 }
 
-// The same, without a search where the reply begins with what is wanted, as it mostly does.
+// The same, without a search where the reply begins with what is wanted, as it mostly does. Up to 16 octets are searched at once: the steps of many octets would
+// wait there for the reply's first ones, which have just been stored one by one.
 pub fn differs(reply: &[u8], wanted: &[u8]) -> u8
     requires { ⌜ (length (now wanted) ≤ length (now reply)) × (length (now reply) ≤ 64) ⌝ }
     ensures { λ r. ⌜ r ≡ differsAt (now (reply .entry)) (now (wanted .entry)) ⌝ }
 {
+    if wanted.len() <= 16 {
+        return first_other(reply, wanted);
+    }
     if begins(reply, wanted) {
         return wanted.len() as u8;
     }

@@ -1,15 +1,18 @@
 -- `replay::playing::play` meets its contract: the k records passed agree, and m records are left.
 use Prim.Native.Nat.{ℕ, _≤_, _+_, _-_, _*_}
 use mathlib.Core.List.{List}
-use mathlib.Core.Path.{_≡_, refl, sym, ap, _∙_}
+use mathlib.Core.Path.{_≡_, refl, sym, ap, subst, _∙_}
 use native.Mathlib.Omega.{arith}
 use borrow.Author.Needs.{needs}
 use lib.ListN.{length, drop}
+use Rattle.link.specs.declared.state.LinkState.{LinkState}
 use Rattle.sheet.proofs.Valid.{valid-sheet, length-least}
+use Rattle.slave.specs.Exchange.{Running}
 use Rattle.slave.specs.Wanted.{stepped, Performed}
 use Rattle.replay.specs.Replay.{playOf}
 use Rattle.replay.specs.Trace.{recordSize, recordsOf, tracedOf}
 use Rattle.replay.proofs.Plays.{command-whole, reply-whole, play-differs, play-agrees, play-end, one-more, one-whole, traced-all}
+use Rattle.replay.proofs.Steps.{step-runs}
 use Rattle.replay.proofs.playing.play.Statement.{statement}
 use Rattle.replay.proofs.playing.play.Tie as tie
 
@@ -18,6 +21,7 @@ Inv-loop sheet layout state₀ memory₀ trace room₀ k₀ at₀ state memory r
     (17 * k ≤ at) × (length state ≡ length state₀) × (length memory ≡ length memory₀) × (length room ≡ length room₀)
     × ((m : ℕ) × (length trace ≡ at + m * recordSize (layout .l))
     × (playOf sheet (layout .l) 0 state₀ memory₀ (tracedOf (layout .l) trace) ≡ playOf sheet (layout .l) k state memory (recordsOf (layout .l) m (drop at trace))))
+    × ((st : LinkState) × Running state layout st)
 
 abbrev μ-loop : tie.MeasureT-loop
 μ-loop sheet layout state₀ memory₀ trace room₀ k₀ at₀ state memory room k at = length trace - at
@@ -35,6 +39,7 @@ loop-holds c =
         (let e = n .1 in omega arith),
         ap (playOf (a .sheet .now) (a .layout .l) 0 (a .state .now) (a .memory .now)) (traced-all (a .layout .l) (n .0) (a .trace .now) (n .1)),
       ),
+      c .before .before .before .before .before .pre .5,
     )
 
 command-at-requires : tie.Need-command-at-requires Inv-loop μ-loop
@@ -60,6 +65,7 @@ one-requires c κs =
       l .inv .3 ∙ p .2,
       ap (λ (s : List ℕ). length s) (c .before .before .before .before .command-at .ensures) ∙ command-whole (a .layout .l) (a .trace .now) (l .at) w,
       ap (λ (s : List ℕ). length s) (c .before .before .before .reply-at .ensures) ∙ reply-whole (a .layout .l) (a .trace .now) (l .at) w,
+      l .inv .5,
     )
 
 mul-t20 : tie.Need-mul-t20 Inv-loop μ-loop
@@ -108,6 +114,10 @@ loop-again c =
     let o = call .one in
     let q = one-more (length (a .trace .now)) (l .at) (l .inv .4 .0) (recordSize (a .layout .l)) (l .inv .4 .1) (call .before .before .before .before .before .before .loop-test .taken) in
     let x = stepped (o .result) (o .last .1 .1 .0) (o .last .1 .1 .1 .0) in
+    let w = one-whole (length (a .trace .now)) (l .at) (l .inv .4 .0) (recordSize (a .layout .l)) (l .inv .4 .1) (call .before .before .before .before .before .before .loop-test .taken) in
+    let runs = step-runs (a .sheet .now) (l .state) (l .memory) _ _ (a .layout) (start .pre .0) (l .inv .5 .0) (l .inv .5 .1) (l .inv .2 ∙ start .pre .1)
+    (ap (λ (s : List ℕ). length s) (call .before .before .before .before .before .command-at .ensures) ∙ command-whole (a .layout .l) (a .trace .now) (l .at) w)
+    (ap (λ (s : List ℕ). length s) (call .before .before .before .before .reply-at .ensures) ∙ reply-whole (a .layout .l) (a .trace .now) (l .at) w) in
     let least = length-least (a .sheet .now) (a .layout) (valid-sheet (a .sheet .now) (a .layout) (start .pre .0)) in (
       omega (arith, l .inv .0),
       o .kept .1 .1 .0 ∙ l .inv .1,
@@ -119,6 +129,7 @@ loop-again c =
         l .inv .4 .2
             ∙ play-agrees (a .sheet .now) (a .trace .now) (a .layout .l) (l .k) (l .at) (l .state) (l .memory) x (q .1) (call .before .before .before .before .before .command-at .ensures) (call .before .before .before .before .reply-at .ensures) (ap (λ (y : Performed). y .step) (o .ensures)) (c .before .if1 .left) (c .behind .ensures),
       ),
+      subst (λ (s : List ℕ). (st : LinkState) × Running s (a .layout) st) (sym (ap (λ (y : Performed). y .step .state) (o .ensures))) runs,
     )
 
 same-length-4 : tie.Need-same-length-4 Inv-loop μ-loop

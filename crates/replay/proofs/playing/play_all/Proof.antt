@@ -24,7 +24,7 @@ play-requires c κs =
     let a = c .before .before .before .before .before .before .before .before .args in
     let p = c .before .before .before .before .before .before .before .before .pre in
     let m = length-most (a .sheet .now) (a .layout) (valid-sheet (a .sheet .now) (a .layout) (p .0)) in
-    (p .0, p .1, length-take-le (a .layout .l) _ m, p .2, p .3)
+    (p .0, p .1, length-take-le (a .layout .l) _ m, p .2, p .3, p .4)
 
 returns : tie.Need-returns
 returns c = c .before .before .before .before .before .play .ensures

@@ -57,6 +57,13 @@ play-all-requires c κs =
       c .before .before .before .before .before .before .before .if1 .left,
       w .0,
       w .1,
+      (
+        _,
+        record {
+          held = sym (c .before .before .before .before .before .before .before .before .before .before .before .before .read .ensures) ∙ c .before .before .before .before .before .before .before .before .before .before .held .given .1;
+          on = c .before .before .before .before .before .if2 .left;
+        },
+      ),
     )
 
 returns-6 : tie.Need-returns-6
