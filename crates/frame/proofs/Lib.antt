@@ -6,3 +6,4 @@ pub mod Kept
 pub mod Bodies
 pub mod Replies
 pub mod Alike
+pub mod Strays
