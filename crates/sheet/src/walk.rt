@@ -104,6 +104,7 @@ const FAULT_FROM: u64 = 72057594037927936;
 // The counts of a whole sheet as one number. The walk takes and hands back what fits in registers and nothing else, so that it is compiled into a
 // loop and takes no stack from record to record.
 fn counted(so: Counts) -> u64
+    requires { ⌜ so .memory ≤ 65536 ⌝ }
     ensures { λ r. ⌜ r ≡ countsNumber so ⌝ }
 {
     so.regions as u64
@@ -135,7 +136,7 @@ fn fault_at(read: Reading, place: usize) -> u64
 
 // At the end record, which stands at a place of the sheet: nothing may stand behind it.
 fn ended(sheet: &[u8], at: usize, so: Counts) -> u64
-    requires { ⌜ (length (now sheet) ≤ 2048) × (at ≤ length (now sheet)) × (so .memory ≤ 65536) ⌝ }
+    requires { ⌜ (length (now sheet) ≤ 2048) × (at ≤ length (now sheet)) × (so .memory ≤ 65536) × (so .tolerances ≤ 1) × (so .releases ≤ 1) ⌝ }
     ensures { λ r. ⌜ tells (now (sheet .entry)) r ≡ endedOf (now (sheet .entry)) (drop at (now (sheet .entry))) so ⌝ }
 {
     let behind = at + 1;
