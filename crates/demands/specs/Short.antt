@@ -49,6 +49,7 @@ withProfile h profile = record {
   parameters = h .parameters;
   items = h .items;
   tolerances = h .tolerances;
+  releases = h .releases;
 }
 
 -- "one not there isn't checked": whatever profile the sheet has, an exchange leaves the same
@@ -86,6 +87,7 @@ typed pdu h = record {
   parameters = h .parameters;
   items = h .items;
   tolerances = h .tolerances;
+  releases = h .releases;
 }
 
 -- any code but MEM_RD and MEM_WR, which the enhanced type alone has

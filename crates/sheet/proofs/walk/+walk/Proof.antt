@@ -61,7 +61,7 @@ pub +walk-spec : {M : Type 1} → statement M
     ∙ walked-fault (a .whole .now .now) (a .at) (a .so) (start .pre .1) _ (c .before .before .before .read-record .ensures) (e .0 .0) (e .1) f h)
     (λ c κs. search needs)
     -- the end record
-    (λ c κs. let ok = c .before .before .before .before .before .before .before .before .pre .1 in (ok .1 .short, ok .0, ok .1 .sound .memory-room))
+    (λ c κs. let ok = c .before .before .before .before .before .before .before .before .pre .1 in (ok .1 .short, ok .0, ok .1 .sound .memory-room, ok .1 .sound .few-tolerances, ok .1 .sound .few-releases))
     (λ c f h.
     let start = c .before .before .before .before .before .before .before .before .before in
     let a = start .args in
