@@ -7,3 +7,4 @@ pub mod Bodies
 pub mod Replies
 pub mod Alike
 pub mod Strays
+pub mod Names

@@ -3,11 +3,12 @@
 --     zero-bits                of an octet that is zero, nothing is not
 --     stray-next, stray-here   an octet that may be what it is, and one that may not
 --     stray-end                behind the last octet
+--     stray-none, stray-one, bits-enhanced, bits-short, stray-as     the definition, for proofs above
 use mathlib.Core.Bool.{Bool, true, false, not, _&&_, _||_}
 use mathlib.Core.Logic.{⊎-elim}
 use mathlib.Core.Path.{_≡_, refl, ap, ap₂, _∙_}
 use mathlib.Core.List.{List, [], _∷_}
-use Prim.Native.Nat.{ℕ, _+_, _-_, _<_, _≤_}
+use Prim.Native.Nat.{ℕ, suc, _+_, _-_, _%_, _<_, _≤_}
 use native.Mathlib.Numerals.{add-one}
 use native.Mathlib.Omega.{arith}
 use borrow.Author.Tests.{lt-ltb, le-ltb, le-leb, lt-leb}
@@ -19,7 +20,7 @@ use Rattle.octets.proofs.Cases.{lt-or-le}
 use Rattle.octets.proofs.Pick.{pick-yes, pick-no, pick-both}
 use Rattle.sheet.specs.declared.walk.Form.{Form}
 use Rattle.sheet.specs.declared.walk.Form.the-variants.{Enhanced, Short}
-use Rattle.frame.specs.Unnamed.{inRun, isNamed, unnamedBits, strayFrom}
+use Rattle.frame.specs.Unnamed.{namesOf, inRun, isNamed, unnamedBits, strayFrom, strayAs}
 use Rattle.frame.specs.declared.unnamed.Run.{Run}
 
 module _ (r : Run) (k : ℕ) where
@@ -57,3 +58,24 @@ module _ (form : Form) (names : List Run) (c : List ℕ) (k : ℕ) where
   pub stray-end : length c ≤ k → strayFrom form names k (drop k c) ≡ 0
   unfolding strayFrom
   stray-end h = rw (drop-of-length-le c h)
+
+pub stray-none : (form : Form) (names : List Run) (k : ℕ) → strayFrom form names k [] ≡ 0
+unfolding strayFrom
+stray-none form names k = refl
+
+pub stray-one : (form : Form) (names : List Run) (k x : ℕ) (xs : List ℕ)
+    → strayFrom form names k (x ∷ xs) ≡ pick (isNamed names k || eqb (unnamedBits form k x) 0) (strayFrom form names (suc k) xs) k
+unfolding strayFrom
+stray-one form names k x xs = refl
+
+pub bits-enhanced : (k x : ℕ) → unnamedBits Enhanced k x ≡ pick (eqb k 2) (x % 64) x
+unfolding unnamedBits
+bits-enhanced k x = refl
+
+pub bits-short : (k x : ℕ) → unnamedBits Short k x ≡ x
+unfolding unnamedBits
+bits-short k x = refl
+
+pub stray-as : (form : Form) (release code : ℕ) (c : List ℕ) → strayAs form release code c ≡ pick (eqb release 2) (strayFrom form (namesOf form code c) 0 c) 0
+unfolding strayAs
+stray-as form release code c = refl
