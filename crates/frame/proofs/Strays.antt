@@ -3,7 +3,7 @@
 --     zero-bits                of an octet that is zero, nothing is not
 --     stray-next, stray-here   an octet that may be what it is, and one that may not
 --     stray-end                behind the last octet
---     stray-none, stray-one, bits-enhanced, bits-short, stray-as     the definition, for proofs above
+--     stray-none, stray-one, bits-enhanced, bits-short, stray-as, stray-of     the definition, for proofs above
 use mathlib.Core.Bool.{Bool, true, false, not, _&&_, _||_}
 use mathlib.Core.Logic.{⊎-elim}
 use mathlib.Core.Path.{_≡_, refl, ap, ap₂, _∙_}
@@ -20,7 +20,7 @@ use Rattle.octets.proofs.Cases.{lt-or-le}
 use Rattle.octets.proofs.Pick.{pick-yes, pick-no, pick-both}
 use Rattle.sheet.specs.declared.walk.Form.{Form}
 use Rattle.sheet.specs.declared.walk.Form.the-variants.{Enhanced, Short}
-use Rattle.frame.specs.Unnamed.{namesOf, inRun, isNamed, unnamedBits, strayFrom, strayAs}
+use Rattle.frame.specs.Unnamed.{namesOf, inRun, isNamed, unnamedBits, strayFrom, strayAs, strayOf}
 use Rattle.frame.specs.declared.unnamed.Run.{Run}
 
 module _ (r : Run) (k : ℕ) where
@@ -79,3 +79,7 @@ bits-short k x = refl
 pub stray-as : (form : Form) (release code : ℕ) (c : List ℕ) → strayAs form release code c ≡ pick (eqb release 2) (strayFrom form (namesOf form code c) 0 c) 0
 unfolding strayAs
 stray-as form release code c = refl
+
+pub stray-of : (form : Form) (release : ℕ) (c : List ℕ) → strayOf form release c ≡ strayAs form release (getD c 0 0) c
+unfolding strayOf
+stray-of form release c = refl

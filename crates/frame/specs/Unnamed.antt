@@ -64,5 +64,5 @@ strayFrom form names k (x ∷ xs) = pick (isNamed names k || eqb (unnamedBits fo
 unfoldable pub strayAs : Form → ℕ → ℕ → List ℕ → ℕ
 strayAs form release code c = pick (eqb release 2) (strayFrom form (namesOf form code c) 0 c) 0
 
-abbrev pub strayOf : Form → ℕ → List ℕ → ℕ
+unfoldable pub strayOf : Form → ℕ → List ℕ → ℕ
 strayOf form release c = strayAs form release (getD c 0 0) c

@@ -1,6 +1,6 @@
 -- What becomes of a command: the machine's outcome and the table's.
 use mathlib.Core.Bool.{Bool, true, false, not, _&&_, _||_}
-use mathlib.Core.Path.{_≡_, refl, sym, subst, _∙_}
+use mathlib.Core.Path.{_≡_, refl, sym, subst, subst₂, _∙_}
 use mathlib.Core.List.{List}
 use Prim.Native.Nat.{ℕ, zero, suc, _+_, _/_, _%_, _≤_, _<_}
 use native.Mathlib.Omega.{arith}
@@ -12,6 +12,7 @@ use Rattle.frame.specs.Unnamed.{strayAs}
 use Rattle.frame.proofs.Bodies.{quiet-at}
 use Rattle.frame.proofs.Kept.{quiet-keeps}
 use Rattle.frame.proofs.Named.{named, command-named, whole-at}
+use Rattle.frame.proofs.Strays.{stray-of}
 use Rattle.law.specs.Words.{when, laid}
 use Rattle.law.specs.Sheet.{PduType, enhanced, short, Sheet, GoodLength, allows as most}
 use Rattle.law.specs.State.{link, failures}
@@ -114,4 +115,5 @@ module _ (h : Sheet) (sheet : List ℕ) (st : LinkState) (m c : List ℕ) (facts
       (finished st n (judgeOf sheet (layoutFor h) st n u))) (fateOf h s m c)) (sym (wdt-same (h .pdu) (code c) c)) told-same
 
   pub outcome-same : Alike (outcomeFor sheet (layoutFor h) st c) (fateOf h s m c)
-  outcome-same = subst (λ (x : Command). Alike (outcomeOf sheet (layoutFor h) st x (strayAs form (releaseFor h) (code c) c)) (fateOf h s m c)) (sym (command-named form c)) named-same
+  outcome-same =
+      subst₂ (λ (x : Command) (u : ℕ). Alike (outcomeOf sheet (layoutFor h) st x u) (fateOf h s m c)) (sym (command-named form c)) (sym (stray-of form (releaseFor h) c)) named-same

@@ -3,17 +3,17 @@ use mathlib.Core.Path.{sym, ap, _∙_}
 use Prim.Native.Nat.{ℕ}
 use borrow.Author.Needs.{needs}
 use Rattle.octets.proofs.Pick.{pick-eq, pick-ne}
-use Rattle.frame.specs.Unnamed.{namesFor, fieldsAt, writtenAt, strayFrom, strayAs}
+use Rattle.frame.specs.Unnamed.{namesFor, fieldsAt, writtenAt, strayFrom, strayAs, strayOf}
 use Rattle.frame.specs.declared.unnamed.Run.{Run}
 use Rattle.frame.proofs.unnamed.stray.Statement.{statement}
 use Rattle.frame.proofs.unnamed.stray.Tie as tie
 
 returns : tie.Need-returns
-unfolding strayAs
+unfolding strayOf strayAs
 returns c = sym (pick-ne _ _ (c .if1 .taken))
 
 returns-2 : tie.Need-returns-2
-unfolding strayAs
+unfolding strayOf strayAs
 returns-2 c =
     let a = c .before .before .before .before .before .before .args in
     let k = c .before .before .before .octet in
