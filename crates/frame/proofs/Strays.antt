@@ -3,6 +3,7 @@
 --     zero-bits                of an octet that is zero, nothing is not
 --     stray-next, stray-here   an octet that may be what it is, and one that may not
 --     stray-end                behind the last octet
+--     stray-free               there is none in release 1
 --     stray-none, stray-one, bits-enhanced, bits-short, stray-as, stray-of     the definition, for proofs above
 use mathlib.Core.Bool.{Bool, true, false, not, _&&_, _||_}
 use mathlib.Core.Logic.{⊎-elim}
@@ -17,7 +18,7 @@ use lib.ListN.{length, getD, drop, drop-of-length-le}
 use lib.Seq.{drop-cons}
 use Rattle.octets.specs.Pick.{pick}
 use Rattle.octets.proofs.Cases.{lt-or-le}
-use Rattle.octets.proofs.Pick.{pick-yes, pick-no, pick-both}
+use Rattle.octets.proofs.Pick.{pick-yes, pick-no, pick-ne, pick-both}
 use Rattle.sheet.specs.declared.walk.Form.{Form}
 use Rattle.sheet.specs.declared.walk.Form.the-variants.{Enhanced, Short}
 use Rattle.frame.specs.Unnamed.{namesOf, inRun, isNamed, unnamedBits, strayFrom, strayAs, strayOf}
@@ -83,3 +84,8 @@ stray-as form release code c = refl
 pub stray-of : (form : Form) (release : ℕ) (c : List ℕ) → strayOf form release c ≡ strayAs form release (getD c 0 0) c
 unfolding strayOf
 stray-of form release c = refl
+
+-- release 1 asks for nothing
+pub stray-free : (form : Form) (release : ℕ) (c : List ℕ) → (release ≡ 2 → ⊥) → strayOf form release c ≡ 0
+unfolding strayOf strayAs
+stray-free form release c z = pick-ne _ _ z

@@ -140,10 +140,11 @@ module _ (pdu : PduType) (h : Sheet) (sheet : List ℕ) (st : LinkState) (m c : 
         (via pdu h sheet st m c facts on world good asked wdt-is (other u z j _ g (not-nine s r rights ten)) no))
         (eq-or-ne u 0)
       where
-      yes : Here j (checked s rights r) → Here j (when true (checked s rights r) (refused s 9 u))
-      yes k = k
-      no : Here (Refused 9 (Stray u)) (when false (checked s rights r) (refused s 9 u))
-      no = refusing pdu h sheet st m c facts on world good asked wdt-is 9 (Stray u) u (stray-at u)
+        yes : Here j (checked s rights r) → Here j (when true (checked s rights r) (refused s 9 u))
+        yes k = k
+
+        no : Here (Refused 9 (Stray u)) (when false (checked s rights r) (refused s 9 u))
+        no = refusing pdu h sheet st m c facts on world good asked wdt-is 9 (Stray u) u (stray-at u)
 
     -- one check of data
     one-more : (b : Bool) (k : Check) (j : Judgement) {f g : Fate} → k .alarm ≡ 9 → (Here j f → Here (strayed u j) g)
