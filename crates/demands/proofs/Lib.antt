@@ -23,6 +23,8 @@ pub mod Tolerated
 pub mod Short
 pub mod SameFields
 pub mod Unnamed
+pub mod Stray
+pub mod Release
 pub mod Turned
 pub mod Shut
 pub mod Replays

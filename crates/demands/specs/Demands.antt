@@ -22,6 +22,7 @@ use Rattle.demands.specs.Mapped.{ParametersAreMapped, MappedIsNotAsked}
 use Rattle.demands.specs.OnTheWire.{RefusedOnTheWire}
 use Rattle.demands.specs.Places.{FirstFailedIsTold, UnknownCodeIsTold, OctetsOfTheFields, NoFieldWasWrong, FirstWithoutTheRight, PlacesAreTheSame}
 use Rattle.demands.specs.Refused.{RefusedChangesNothing, StatesStayValid}
+use Rattle.demands.specs.Release.{SameWhereZero, AcceptedIfZero, TheFirstIsTold}
 use Rattle.demands.specs.Replays.{TracesHaveReplies, AgreesExactly, ReplayIsFold, CutInTwo, FormsJoin, ReplayCutInTwo, SecretsInReplay, OnlyAgreeingReach, ReplayPlays, RecordsAreAnswered, SecretsInWholeReplay, RefusedReplayWritesNothing}
 use Rattle.demands.specs.Sequences.{Call, runOf, History}
 use Rattle.demands.specs.Short.{ShortReplies, NoMemoryCommands, ProfileIsNotChecked, OthersAreIgnored, SameFieldsSameFate}
@@ -165,3 +166,14 @@ pub record Request9 : Type 0 where
   pub passing-counts-none : PassingCountsNone
   -- "A call turns a valid old record into a new one."
   pub an-old-record-is-turned : OldRecordsTurn
+
+-- Document 02, request 13, "Reserved octets, release 2": "a command octet that document 01 doesn't name must be zero. .. Demands 2 and 3 and request 11 hold under
+-- each." Demands 1 to 3 above are of every sheet, of either release; so are requests 3, 5, 6, 8 and 9, and of 1 and 7 all but what says that such octets are
+-- ignored.
+pub record Request13 : Type 0 where
+  -- "Prove once that both give equal results wherever those octets are zero."
+  pub the-same-where-they-are-zero : SameWhereZero
+  -- and release 2 accepts nothing else
+  pub accepted-exactly-if-zero : AcceptedIfZero
+  -- "alarm 9 at the first such octet"
+  pub the-first-such-octet : TheFirstIsTold

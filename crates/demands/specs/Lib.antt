@@ -14,6 +14,7 @@ pub mod Places
 pub mod Watchdog
 pub mod Tolerated
 pub mod Short
+pub mod Release
 pub mod Replays
 pub mod Unique
 pub mod Bench
