@@ -3,7 +3,7 @@
 
 use crate::engine::memory_mode;
 use crate::trial::build;
-use crate::trial::plan::{each_type, item, parameter, region, Plan};
+use crate::trial::plan::{each_type, item, of_both_releases, parameter, region, Plan};
 use crate::trial::probe::{expect_told, expect_told_in_step, take_plan, Outcome, Told};
 use crate::trial::rig::Rig;
 use crate::trial::states::{counting_state, plain_state, ASYNC, DISCONNECTED};
@@ -18,7 +18,7 @@ const OCTET_7: Told = (9, 7);
 const OCTET_8: Told = (9, 8);
 
 pub fn run(rig: &mut Rig) -> Outcome {
-    for plan in each_type(plan) {
+    for plan in each_type(plan).into_iter().flat_map(of_both_releases) {
         take_plan(rig, &plan);
         rig.origin = "directed: places of parameters".to_string();
         parameters(rig, &plan)?;
@@ -148,7 +148,7 @@ fn connects(rig: &mut Rig, plan: &Plan) -> Outcome {
                 let fits = match at {
                     5 => [0, 2, 6].contains(&octet),
                     6 => octet >= 2 || octet == 1 && com_mod != 6,
-                    7 if !plan.wire.names_profile => true,
+                    7 if !plan.wire.names_profile => octet == 0 || !plan.asks_zeros(),
                     _ => octet == good[at],
                 };
                 let told = if fits { ACCEPTED } else { failed };

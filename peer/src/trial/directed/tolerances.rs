@@ -56,7 +56,7 @@ pub fn expect_sheet(rig: &mut Rig, records: &[Vec<u8>], answer: u64) -> Outcome 
 }
 
 /// The records before the end.
-fn body(plan: &Plan) -> Vec<Vec<u8>> {
+pub fn body(plan: &Plan) -> Vec<Vec<u8>> {
     let mut records = plan.records();
     records.pop();
     records
