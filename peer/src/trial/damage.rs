@@ -96,14 +96,18 @@ fn damage_records(random: &mut Random, records: &mut Vec<Vec<u8>>) {
     }
 }
 
-/// A release record, mostly at the end or beside it, at times the last octets of all.
+/// A release record beside the sheet's own or in its stead, mostly at the end, at times the last octets of all.
 fn release(random: &mut Random, records: &mut Vec<Vec<u8>>) {
-    let last = records.len();
+    if random.chance(60) {
+        records.retain(|record| record.first() != Some(&7));
+    }
+    let last = records.len().max(1);
     let anywhere = random.index(last);
     let at = random.pick(&[0, last - 1, last - 1, last - 1, last, anywhere]);
     let release = random.pick(&[0, 1, 1, 2, 2, 3, 0xFF]);
+    let at = at.min(records.len());
     records.insert(at, release_record(release));
-    if random.chance(30) {
+    if random.chance(40) {
         records.truncate(at + 1);
         records[at].truncate(random.pick(&[1, 2]));
     }

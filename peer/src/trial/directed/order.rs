@@ -10,6 +10,7 @@ use crate::trial::rig::Rig;
 const ALARM_DATA: u8 = 9;
 
 pub fn run(rig: &mut Rig) -> Outcome {
+    rig.origin = "directed: a reserved octet beside each other fault".to_string();
     for tolerance in [None, Some(1)] {
         for rights in [7, 0] {
             let with_rights = |length| Plan {
@@ -47,9 +48,7 @@ fn beside_each(rig: &mut Rig, plan: &Plan, case: &Case) -> Outcome {
 
 /// None and each of the reserved octets set, and all at once.
 fn beside(rig: &mut Rig, plan: &Plan, command: &[u8], told: Told, octets: &[usize]) -> Outcome {
-    rig.origin = "directed: faults without a reserved octet".to_string();
     in_every_link(rig, plan, command, told)?;
-    rig.origin = "directed: a reserved octet beside other faults".to_string();
     let behind = |at: usize| match told.0 {
         ALARM_DATA => told,
         _ => (ALARM_DATA, at as u64),

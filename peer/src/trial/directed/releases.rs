@@ -16,14 +16,11 @@ const RANGE: u64 = 14;
 const VALUES: [u8; 5] = [0, 1, 2, 3, 255];
 
 pub fn run(rig: &mut Rig) -> Outcome {
+    rig.origin = "directed: releases, good and bad, in every place".to_string();
     for plan in plans() {
-        rig.origin = "directed: every release".to_string();
         values(rig, &plan)?;
-        rig.origin = "directed: a release in every place".to_string();
         places(rig, &plan)?;
-        rig.origin = "directed: records behind a release".to_string();
         behind(rig, &plan)?;
-        rig.origin = "directed: releases that are cut".to_string();
         cuts(rig, &plan)?;
     }
     Ok(())

@@ -16,6 +16,7 @@ const START: u64 = 0x100;
 const VALUES: [u8; 4] = [0x01, 0x20, 0x80, 0xFF];
 
 pub fn run(rig: &mut Rig) -> Outcome {
+    rig.origin = "directed: every octet of a command under each release".to_string();
     for release in RELEASES {
         for plan in each_type(|length| plan(length, release)) {
             take_plan(rig, &plan);
@@ -125,20 +126,16 @@ fn states(plan: &Plan, code: u8) -> Vec<Vec<u8>> {
 fn every_octet(rig: &mut Rig, plan: &Plan, state: &[u8], command: &[u8], told: Told) -> Outcome {
     let mut command = command.to_vec();
     build::follow(plan.wire, &mut command, state);
-    rig.origin = "directed: commands without a reserved octet".to_string();
     expect_told(rig, state, &command, told)?;
     let bits = named_bits(plan.wire, &command);
     let known = told.0 != 8;
     let written = data(plan.wire, &command);
     for at in (1..command.len()).filter(|&at| at != plan.wire.wdt) {
         if known && fields(plan.wire, command[0]).contains(&at) {
-            rig.origin = "directed: each field beside reserved octets".to_string();
             other_field(rig, state, &command, at)?;
         } else if known && written.contains(&at) {
-            rig.origin = "directed: each octet of written data".to_string();
             each_value(rig, state, &command, at, |_| told)?;
         } else {
-            rig.origin = "directed: each reserved octet of a command".to_string();
             let asked = plan.asks_zeros() && told == ACCEPTED;
             let expected = |octet| match asked && octet & !bits[at] != 0 {
                 true => (9, at as u64),

@@ -12,16 +12,14 @@ use crate::trial::samples::released;
 use crate::trial::states::{plain_state, ASYNC};
 
 pub fn run(rig: &mut Rig) -> Outcome {
+    rig.origin = "directed: traces under each release".to_string();
     for release in [Some(1), Some(2)] {
         for plan in each_type(|length| released(length, Some(1), release)) {
             take_plan(rig, &plan);
             let recorder = record(&plan);
-            rig.origin = "directed: a trace with reserved octets".to_string();
             recorder.lend_to(&mut rig.inputs);
             rig.expect(Call::Replay, recorder.records << 32)?;
-            rig.origin = "directed: one octet of such a trace changed".to_string();
             changed(rig, &recorder)?;
-            rig.origin = "directed: such a trace under the other release".to_string();
             other_release(rig, &plan, &recorder)?;
         }
     }
