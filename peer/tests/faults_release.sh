@@ -80,7 +80,7 @@ fault "release 2 in the short type alone" engine/sheet.rs 's/self.release == Som
 fault "release 1 beside a tolerance" engine/sheet.rs 's/self.release == Some(SECOND_RELEASE)/self.tolerance.is_none() \&\& &/'
 fault "release 1 at L 8" engine/sheet.rs 's/self.release == Some(SECOND_RELEASE)/self.octets[1] != 8 \&\& &/'
 chosen "release 1 in a replay" engine/replay.rs \
-    's/let sheet = Sheet::read(sheet)?;/let mut one = sheet.to_vec(); if let [.., 7, release @ 2, 0] = \&mut one[..] { *release = 1; } let sheet = Sheet::read(\&one)?;/'
+    's/let sheet = Sheet::read(sheet)?;/let mut one = sheet.to_vec(); if Sheet::read(sheet)?.asks_zeros() { one[sheet.len() - 2] = 1; } let sheet = Sheet::read(\&one)?;/'
 
 group "reserved octets"
 fault "the identity asked" engine/reserved.rs 's/command\[at\] & !frame.identity/command[at]/'

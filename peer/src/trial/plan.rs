@@ -145,11 +145,6 @@ pub fn each_type(plan: impl Fn(u8) -> Plan) -> Vec<Plan> {
     plans
 }
 
-/// The plan as it is, and under release 2, where its commands have zeros in their reserved octets.
-pub fn of_both_releases(plan: Plan) -> [Plan; 2] {
-    [plan.clone(), plan.in_release_2()]
-}
-
 pub fn region_record(region: &Region) -> Vec<u8> {
     let mut record = vec![2];
     record.extend((region.start as u32).to_le_bytes());

@@ -31,7 +31,6 @@ use super::rig::Rig;
 /// All directed trials.
 pub fn run(rig: &mut Rig) -> Outcome {
     link_records::run(rig)?;
-    releases::run(rig)?;
     buffers::run(rig)?;
     states::run(rig)?;
     turns::run(rig)?;
@@ -45,13 +44,15 @@ pub fn run(rig: &mut Rig) -> Outcome {
     reserves::run(rig)?;
     places::run(rig)?;
     wrong::run(rig)?;
-    reserved::run(rig)?;
-    order::run(rig)?;
     lacking::run(rig)?;
     limits::run(rig)?;
     tolerances::run(rig)?;
+    releases::run(rig)?;
+    reserved::run(rig)?;
+    order::run(rig)?;
+    places::run_in_release_2(rig)?;
     sheets::run(rig)?;
     failing_traces::run(rig)?;
-    reserved_traces::run(rig)?;
-    traces::run(rig)
+    traces::run(rig)?;
+    reserved_traces::run(rig)
 }

@@ -3,7 +3,7 @@
 
 use crate::engine::memory_mode;
 use crate::trial::build;
-use crate::trial::plan::{each_type, item, of_both_releases, parameter, region, Plan};
+use crate::trial::plan::{each_type, item, parameter, region, Plan};
 use crate::trial::probe::{expect_told, expect_told_in_step, take_plan, Outcome, Told};
 use crate::trial::rig::Rig;
 use crate::trial::states::{counting_state, plain_state, ASYNC, DISCONNECTED};
@@ -18,7 +18,16 @@ const OCTET_7: Told = (9, 7);
 const OCTET_8: Told = (9, 8);
 
 pub fn run(rig: &mut Rig) -> Outcome {
-    for plan in each_type(plan).into_iter().flat_map(of_both_releases) {
+    every_field(rig, each_type(plan))
+}
+
+/// The same under release 2, where all that is reserved is zero.
+pub fn run_in_release_2(rig: &mut Rig) -> Outcome {
+    every_field(rig, each_type(|length| plan(length).in_release_2()))
+}
+
+fn every_field(rig: &mut Rig, plans: Vec<Plan>) -> Outcome {
+    for plan in plans {
         take_plan(rig, &plan);
         rig.origin = "directed: places of parameters".to_string();
         parameters(rig, &plan)?;
