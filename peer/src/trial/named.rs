@@ -82,42 +82,48 @@ mod tests {
         command
     }
 
+    /// The octets from each first number on, up to the second.
+    fn octets_of(stretches: &[(usize, usize)]) -> Vec<usize> {
+        let stretches = stretches.iter();
+        stretches.flat_map(|&(start, end)| start..end).collect()
+    }
+
     #[test]
     fn reserved_octets_are_those_of_the_table() {
         let long = memory_mode::octet(3);
-        for (code, body, rest) in [
-            (0x00, &[][..], vec![4..16]),
-            (0x01, &[1, 0, 4], vec![7..16]),
-            (0x02, &[1, 0, 4], vec![7..8, 12..16]),
-            (0x02, &[1, 0, 8], vec![7..8]),
-            (0x02, &[1, 0, 255], vec![7..8]),
-            (0x03, &[1, 0, 4, 0], vec![8..16]),
-            (0x05, &[0, 0], vec![6..16]),
-            (0x0E, &[3, 0, 1, 4], vec![8..16]),
-            (0x1D, &[0, long, 1, 0], vec![4..5, 12..16]),
-            (0x1E, &[0, long, 1, 0], vec![4..5]),
-            (0x1E, &[0, long, 0xFF, 0xFF], vec![4..5]),
-            (0x77, &[], vec![4..16]),
+        for (code, body, behind) in [
+            (0x00, &[][..], &[(4, 16)][..]),
+            (0x01, &[1, 0, 4], &[(7, 16)]),
+            (0x02, &[1, 0, 4], &[(7, 8), (12, 16)]),
+            (0x02, &[1, 0, 8], &[(7, 8)]),
+            (0x02, &[1, 0, 255], &[(7, 8)]),
+            (0x03, &[1, 0, 4, 0], &[(8, 16)]),
+            (0x05, &[0, 0], &[(6, 16)]),
+            (0x0E, &[3, 0, 1, 4], &[(8, 16)]),
+            (0x1D, &[0, long, 1, 0], &[(4, 5), (12, 16)]),
+            (0x1E, &[0, long, 1, 0], &[(4, 5)]),
+            (0x1E, &[0, long, 0xFF, 0xFF], &[(4, 5)]),
+            (0x77, &[], &[(4, 16)]),
         ] {
-            let expected = [2..4].into_iter().chain(rest).flatten();
-            assert!(reserved(&ENHANCED, &command(16, code, body))
-                .into_iter()
-                .eq(expected));
+            let expected = [octets_of(&[(2, 4)]), octets_of(behind)].concat();
+            assert_eq!(reserved(&ENHANCED, &command(16, code, body)), expected);
         }
-        for (code, body, rest) in [
-            (0x00, &[][..], 4..15),
-            (0x01, &[1, 0, 4], 7..15),
-            (0x02, &[1, 0, 4], 11..15),
-            (0x02, &[1, 0, 8], 15..15),
-            (0x03, &[1, 0, 4], 7..15),
-            (0x06, &[0], 5..15),
-            (0x0E, &[3, 0, 1], 7..15),
-            (0x1E, &[0, 0x11, 1], 4..15),
+    }
+
+    #[test]
+    fn reserved_octets_of_the_short_type_are_those_of_the_table() {
+        for (code, body, behind) in [
+            (0x00, &[][..], (4, 15)),
+            (0x01, &[1, 0, 4], (7, 15)),
+            (0x02, &[1, 0, 4], (11, 15)),
+            (0x02, &[1, 0, 8], (15, 15)),
+            (0x03, &[1, 0, 4], (7, 15)),
+            (0x06, &[0], (5, 15)),
+            (0x0E, &[3, 0, 1], (7, 15)),
+            (0x1E, &[0, 0x11, 1], (4, 15)),
         ] {
-            let expected = (1..4).chain(rest);
-            assert!(reserved(&SHORT, &command(16, code, body))
-                .into_iter()
-                .eq(expected));
+            let expected = octets_of(&[(1, 4), behind]);
+            assert_eq!(reserved(&SHORT, &command(16, code, body)), expected);
         }
     }
 

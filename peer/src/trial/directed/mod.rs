@@ -31,6 +31,7 @@ use super::rig::Rig;
 /// All directed trials.
 pub fn run(rig: &mut Rig) -> Outcome {
     link_records::run(rig)?;
+    releases::run(rig)?;
     buffers::run(rig)?;
     states::run(rig)?;
     turns::run(rig)?;
@@ -47,7 +48,6 @@ pub fn run(rig: &mut Rig) -> Outcome {
     lacking::run(rig)?;
     limits::run(rig)?;
     tolerances::run(rig)?;
-    releases::run(rig)?;
     reserved::run(rig)?;
     order::run(rig)?;
     places::run_in_release_2(rig)?;

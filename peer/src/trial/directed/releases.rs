@@ -26,6 +26,20 @@ pub fn run(rig: &mut Rig) -> Outcome {
     Ok(())
 }
 
+/// All that a good sheet has, used under each release.
+pub fn use_good(rig: &mut Rig) -> Outcome {
+    for plan in plans() {
+        for release in [Some(1), Some(2)] {
+            let plan = Plan {
+                release,
+                ..plan.clone()
+            };
+            judge_sheet(rig, &plan.octets())?;
+        }
+    }
+    Ok(())
+}
+
 /// Sheets without the record, of both types: of all kinds, of some, of none, and as large as can be.
 fn plans() -> Vec<Plan> {
     let mut items_alone = Plan::bare(8);
@@ -61,9 +75,6 @@ fn values(rig: &mut Rig, plan: &Plan) -> Outcome {
     for value in 0..=255 {
         let sheet = [body(plan), vec![release_record(value), vec![0]]].concat();
         expect_sheet(rig, &sheet, in_range(value, start, 0))?;
-        if good(value) {
-            judge_sheet(rig, &sheet.concat())?;
-        }
     }
     Ok(())
 }

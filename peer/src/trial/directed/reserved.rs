@@ -1,6 +1,7 @@
 //! Request 13: every octet of every command set in turn, alone and with all that
 //! is reserved behind it, under each release and without the record.
 
+use super::releases::use_good;
 use crate::engine::memory_mode;
 use crate::trial::build;
 use crate::trial::named::{data, fields, hush, named_bits};
@@ -17,6 +18,7 @@ const VALUES: [u8; 4] = [0x01, 0x20, 0x80, 0xFF];
 
 pub fn run(rig: &mut Rig) -> Outcome {
     rig.origin = "directed: every octet of a command under each release".to_string();
+    use_good(rig)?;
     for release in RELEASES {
         for plan in each_type(|length| plan(length, release)) {
             take_plan(rig, &plan);
