@@ -15,9 +15,13 @@ use Rattle.sheet.specs.declared.walk.Layout.{Layout}
 use Rattle.sheet.specs.declared.walk.Verdict.{Verdict}
 use Rattle.sheet.specs.declared.walk.Verdict.the-variants.{Valid, Faulty}
 
+abbrev pub counts : ℕ → ℕ → ℕ → ℕ → ℕ → ℕ → Counts
+counts regions parameters items tolerances releases memory =
+    record { regions = regions; parameters = parameters; items = items; tolerances = tolerances; releases = releases; memory = memory }
+
 -- before the first record
 abbrev pub none : Counts
-none = record { regions = 0; parameters = 0; items = 0; tolerances = 0; releases = 0; memory = 0 }
+none = counts 0 0 0 0 0 0
 
 -- request 9: the record behind the ID items "allows that many failures in a row, none without it"
 unfoldable pub toleranceIn : List ℕ → Counts → ℕ

@@ -7,7 +7,7 @@ ghost use Prim.Native.Nat.{ℕ, _≤_, _<_, _-_};
 ghost use lib.ListN.{length, drop};
 ghost use Rattle.sheet.specs.Sound.{Standing};
 ghost use Rattle.sheet.specs.Handed.{countsNumber, failedNumber, faultOf, tells, failedAt};
-ghost use Rattle.sheet.specs.Walk.{formOf, toleranceIn, releaseIn, layoutOf, endedOf, walkOf, verdictOf};
+ghost use Rattle.sheet.specs.Walk.{counts, formOf, toleranceIn, releaseIn, layoutOf, endedOf, walkOf, verdictOf};
 
 // The types of PDU. A sheet picks one by the kind of its first record.
 pub enum Form {
@@ -146,13 +146,31 @@ fn ended(sheet: &[u8], at: usize, so: Counts) -> u64
     counted(so)
 }
 
-// From one record to the next: it calls itself on the part behind the record just read, which it is told by the place where that part begins.
-fn walk(whole: &&[u8], at: usize, so: Counts) -> u64
-    requires { ⌜ (at ≤ length (now (now whole))) × Standing (now (now whole)) (drop at (now (now whole))) so ⌝ }
-    ensures { λ r. ⌜ ((f : ℕ) → length (now (now (whole .entry))) - at < f → tells (now (now (whole .entry))) r ≡ walkOf f (now (now (whole .entry))) (drop at (now (now (whole .entry)))) so) ⌝ }
+// From one record to the next: it calls itself on the part behind the record just read, which it is told by the place where that part begins, and by the
+// counts one by one, since a struct of more than eight octets would be handed on in memory.
+fn walk(
+    whole: &&[u8],
+    at: usize,
+    regions: u8,
+    parameters: u8,
+    items: u8,
+    tolerances: u8,
+    releases: u8,
+    memory: u32,
+) -> u64
+    requires { ⌜ (at ≤ length (now (now whole))) × Standing (now (now whole)) (drop at (now (now whole))) (counts regions parameters items tolerances releases memory) ⌝ }
+    ensures { λ r. ⌜ ((f : ℕ) → length (now (now (whole .entry))) - at < f → tells (now (now (whole .entry))) r ≡ walkOf f (now (now (whole .entry))) (drop at (now (now (whole .entry)))) (counts regions parameters items tolerances releases memory)) ⌝ }
 {
     let sheet = *whole;
     let rest = &sheet[at..];
+    let so = Counts {
+        regions,
+        parameters,
+        items,
+        tolerances,
+        releases,
+        memory,
+    };
     let read = crate::reading::read_record(sheet, rest, so);
     let Reading::Record(size, next) = read else {
         return fault_at(read, at);
@@ -160,7 +178,16 @@ fn walk(whole: &&[u8], at: usize, so: Counts) -> u64
     if octets::octet(rest, 0) == 0 {
         return ended(sheet, at, so);
     }
-    walk(whole, at + size as usize, next)
+    walk(
+        whole,
+        at + size as usize,
+        next.regions,
+        next.parameters,
+        next.items,
+        next.tolerances,
+        next.releases,
+        next.memory,
+    )
 }
 
 // The fault of a paper's number; a number that is none counts as the last.
@@ -206,13 +233,5 @@ pub fn check(sheet: &[u8]) -> Verdict
     if 2048 < sheet.len() {
         return Verdict::Faulty(Fault::Ended, 0);
     }
-    let none = Counts {
-        regions: 0,
-        parameters: 0,
-        items: 0,
-        tolerances: 0,
-        releases: 0,
-        memory: 0,
-    };
-    told(sheet, walk(&sheet, 0, none))
+    told(sheet, walk(&sheet, 0, 0, 0, 0, 0, 0, 0))
 }
