@@ -8,3 +8,4 @@ pub mod Replies
 pub mod Alike
 pub mod Strays
 pub mod Names
+pub mod Clear

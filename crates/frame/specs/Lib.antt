@@ -5,3 +5,4 @@ pub mod Fielded
 pub mod Head
 pub mod Body
 pub mod Unnamed
+pub mod Clear

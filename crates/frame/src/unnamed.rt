@@ -10,14 +10,16 @@ use machine::codes::PRM_WR;
 use machine::words::Carrier;
 use sheet::walk::Form;
 ghost use mathlib.Core.Path.{_≡_};
-ghost use mathlib.Core.Bool.{not, _||_};
-ghost use Prim.Native.Nat.{_*_, _≤_};
-ghost use lib.Dec.{eqb};
+ghost use mathlib.Core.Bool.{true, not, _||_};
+ghost use Prim.Native.Nat.{ℕ, _*_, _≤_, _<_};
+ghost use lib.Dec.{eqb, ltb};
 ghost use lib.ListN.{length, getD};
 ghost use Rattle.octets.specs.Numbers.{le2At};
+ghost use Rattle.octets.specs.Pick.{pick};
 ghost use Rattle.machine.specs.Judging.{elementOf};
 ghost use Rattle.frame.specs.Places.{echoFrom, echoSize};
 ghost use Rattle.frame.specs.Unnamed.{run, fieldsAt, writtenAt, namesFor, inRun, isNamed, unnamedBits, strayFrom, strayOf};
+ghost use Rattle.frame.specs.Clear.{HeadClear, unnamedEnd, behindRun};
 
 // Octets of a command: the first, and how many.
 pub struct Run {
@@ -144,6 +146,83 @@ fn first_stray(form: Form, fields: Run, written: Run, command: &[u8]) -> u8
     0
 }
 
+// Whether octets from one up to another are known to be zero.
+fn zero_between(command: &[u8], from: usize, to: usize) -> bool
+    ensures { λ r. ⌜ (r ≡ true → (k : ℕ) → from ≤ k → k < to → getD (now (command .entry)) k 0 ≡ 0) ⌝ }
+{
+    if command.len() < to {
+        return false;
+    }
+    if to <= from {
+        return true;
+    }
+    octets::zeros(&command[from..to])
+}
+
+// Whether the octets before the fields, which every command of the type has, are known to be what they may be.
+fn head_clear(form: Form, command: &[u8]) -> bool
+    ensures { λ r. ⌜ (r ≡ true → HeadClear form (now (command .entry))) ⌝ }
+{
+    match form {
+        Form::Enhanced => {
+            (octets::octet(command, 2) % 64 == 0) & (octets::octet(command, 3) == 0)
+        }
+        Form::Short => zero_between(command, 1, 4),
+    }
+}
+
+// Where the octets that a command could name end: in the short type WDT stands behind them.
+fn end_of(form: Form, l: usize) -> usize
+    ensures { λ r. ⌜ r ≡ unnamedEnd form l ⌝ }
+{
+    match form {
+        Form::Enhanced => l,
+        Form::Short => {
+            if l == 16 {
+                return 15;
+            }
+            l
+        }
+    }
+}
+
+// Where a run ends, and the part behind it begins; of a run that is too long to stand in a command, at the command's end.
+fn behind(run: Run, l: usize) -> usize
+    ensures { λ r. ⌜ r ≡ behindRun run l ⌝ }
+{
+    if l < run.first {
+        return l;
+    }
+    if l - run.first < run.many {
+        return l;
+    }
+    run.first + run.many
+}
+
+// The later of two places.
+fn later(a: usize, b: usize) -> usize
+    ensures { λ r. ⌜ r ≡ pick (ltb b a) a b ⌝ }
+{
+    if b < a {
+        return a;
+    }
+    b
+}
+
+// Whether a command is known to have no stray octet: all that it does not name is zero, part by part, in steps of many octets.
+fn is_clear(form: Form, fields: Run, written: Run, command: &[u8]) -> bool
+    ensures { λ r. ⌜ (r ≡ true → strayFrom form (namesFor form fields written) 0 (now (command .entry)) ≡ 0) ⌝ }
+{
+    let l = command.len();
+    let first = behind(fields, l);
+    let second = behind(written, l);
+    let last = later(first, second);
+    head_clear(form, command)
+        & zero_between(command, 4, fields.first)
+        & zero_between(command, first, written.first)
+        & zero_between(command, last, end_of(form, l))
+}
+
 // The first octet of a command that should be zero and is not; 0 where there is none, and always in release 1.
 pub fn stray(form: Form, release: u8, command: &[u8]) -> u8
     requires { ⌜ length (now command) ≤ 255 ⌝ }
@@ -155,5 +234,8 @@ pub fn stray(form: Form, release: u8, command: &[u8]) -> u8
     let code = octets::octet(command, 0);
     let fields = fields_at(form, code);
     let written = written_at(form, code, command);
+    if is_clear(form, fields, written, command) {
+        return 0;
+    }
     first_stray(form, fields, written, command)
 }
