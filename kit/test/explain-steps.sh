@@ -117,7 +117,7 @@ trace: 1E0005190021010000100000B5000000
            ^^^^                ^^
 octet 2: status, low octet, with the command's identity
 ours:  accepted
-trace: alarm 9, a field of the command is wrong; communication latch 1, not an alarm of this library; a latch is set
+trace: alarm 9, an octet of the command is wrong; communication latch 1, not an alarm of this library; a latch is set
 END
     unsaid stderr
 }
