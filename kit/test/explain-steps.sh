@@ -239,11 +239,12 @@ explain_all() {
     explain_tolerated
     explain_turned
     explain_short
+    explain_rules
     explain_refused
     explain_refusals
     explain_usage
     explain_streams
-    echo "sheets, agreement, differences, bodies, tolerated, turned, short, refused commands, refusals, usage, streams: ok"
+    echo "sheets, agreement, differences, bodies, tolerated, turned, short, rules, refused commands, refusals, usage, streams: ok"
 }
 
 test_explain() {
@@ -254,6 +255,7 @@ test_explain() {
     make_refused_traces
     make_tolerated
     make_short
+    make_rules
     cd "$kit/test"
     explain_all "as installed" "run $dist/x86_64/libexec/t24-explain"
     $CPP "$dist/example/explain.c" $LIB -o "$work/t24-explain"
