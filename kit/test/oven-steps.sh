@@ -76,7 +76,8 @@ test_example_sheet() {
     (cd "$work" && sh ./make-sheet) || fail "the page's command for a sheet"
     cmp "$work/example.sheet" "$dist/example/example.sheet" || fail "example.sheet"
     cmp "$work/short.sheet" "$dist/example/short.sheet" || fail "short.sheet"
-    echo "example.sheet and short.sheet are what the page makes"
+    { head -c 32 "$work/p.bin" && octets 07 02 00; } | cmp - "$work/rules.sheet" || fail "rules.sheet"
+    echo "example.sheet, short.sheet and rules.sheet are what the page makes"
 }
 
 test_oven() {
