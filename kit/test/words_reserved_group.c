@@ -59,6 +59,8 @@ static const struct {
     { 0, 1, { 0x00, 1 }, "alarm 9 at octet 1, no field of this command" },
     { 0, 9, { 0x02, 0, 0, 0, 7, 0, 2, 0, 1, 1 },
       "alarm 9 at octet 9, no field of this command" },
+    { 0, 13, { 0x1E, 0, 0, 0, 0, 0x21, 1, 0, 0, 0x10, 0, 0, 1, 1 },
+      "alarm 9 at octet 13, no field of this command" },
     { 0, 15, { 0x1E, 0, 0, 0, 0, 0x31, 1, 0, 0, 0x10, 0, 0, 1, 1, 1, 1 },
       "alarm 9 at octet 15, no field of this command" },
     { 0, 3, { 0x20, 0, 0, 1 }, "alarm 9 at octet 3, no field of this command" },
