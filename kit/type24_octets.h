@@ -118,8 +118,8 @@
  *   4..   the fields named with the command; others are reserved, and so are
  *         those behind written data
  * Reserved octets are not looked at under release 1 of the drive rules.  Under
- * release 2 they must be zero, else alarm 9 (RULES 7.24); t24_rule_release()
- * tells which of the two a sheet asks for.
+ * release 2 of the drive rules they must be zero, else alarm 9 (RULES 7.24);
+ * t24_rule_release() tells which of the two a sheet asks for.
  */
 #define T24_COMMAND_AT_CODE 0
 #define T24_COMMAND_AT_WDT 1

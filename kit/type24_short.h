@@ -25,7 +25,7 @@
  *         those behind written data
  *   15    WDT: low half MN, high half SN; t24_put_wdt() puts it there
  * Reserved octets are not looked at under release 1 of the drive rules, and must
- * be zero under release 2 (RULES 7.24).
+ * be zero under release 2 of the drive rules (RULES 7.24).
  */
 #define T24_SHORT_COMMAND_AT_WDT 15
 

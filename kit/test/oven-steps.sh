@@ -76,7 +76,7 @@ test_example_sheet() {
     (cd "$work" && sh ./make-sheet) || fail "the page's command for a sheet"
     cmp "$work/example.sheet" "$dist/example/example.sheet" || fail "example.sheet"
     cmp "$work/short.sheet" "$dist/example/short.sheet" || fail "short.sheet"
-    { head -c 32 "$work/p.bin" && octets 07 02 00; } | cmp - "$work/rules.sheet" || fail "rules.sheet"
+    cmp "$work/rules.sheet" "$dist/example/rules.sheet" || fail "rules.sheet"
     echo "example.sheet, short.sheet and rules.sheet are what the page makes"
 }
 
@@ -122,6 +122,7 @@ test_short_oven() {
 # Under release 2 of the drive rules the same replies come, for the host sends zeros where nothing is named; one that does not is told the octet.
 test_ruled_oven() {
     { head -c 32 "$work/p.bin" && octets 07 02 00; } >"$work/p2.bin"
+    cmp "$work/p2.bin" "$dist/example/rules.sheet" || fail "the example's sheet under release 2 of the drive rules"
     { head -c 32 "$work/s.bin" && octets 07 02 00; } >"$work/s2.bin"
     { head -c 32 "$work/p.bin" && octets 07 03 00; } >"$work/p3.bin"
     run "$work/oven" "$work/p2.bin" | cmp - "$work/p.want" || fail "oven under release 2 of the drive rules"

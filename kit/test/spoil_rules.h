@@ -81,8 +81,8 @@ static int lacks_right(const uint8_t *sheet, size_t sheet_len,
         && t24_reply_alarm(sheet, reply) == T24_ALARM_RIGHTS;
 }
 
-/* The command as it is seen under release 2, whose lengths are right: with octets
- * that are not looked at, or with some that are and should not be. */
+/* The command as it is seen under rule release 2, whose lengths are right: with
+ * octets that are not looked at, or with some that are and should not be. */
 static const uint8_t *spoil_reserved(const uint8_t *sheet, size_t sheet_len,
                                      const uint8_t *state, size_t memory_len,
                                      const uint8_t *command, size_t len)

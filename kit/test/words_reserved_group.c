@@ -40,7 +40,7 @@ static const struct {
       "alarm 9: octet 14 must be zero" }
 };
 
-/* What release 2 says as release 1 does: a field, and a place that no refusal of
+/* What rule release 2 says as 1 does: a field, and a place that no refusal of
  * this command has, since its octet is named or zero. */
 static const struct {
     uint8_t is_short, place, command[16];
@@ -128,7 +128,7 @@ void words_reserved(void)
 }
 
 /* By the library's own answers: every octet of every command that an exchange
- * refuses under release 2 alone has words that name it. */
+ * refuses under rule release 2 alone has words that name it. */
 void words_reserved_answers(void)
 {
     static const uint8_t state_1[T24_STATE_LEN] = { 0x12, 1, 16 };
