@@ -25,6 +25,9 @@ pub mod SameFields
 pub mod Unnamed
 pub mod Stray
 pub mod Release
+pub mod Cells
+pub mod Granted
+pub mod GrantedRuns
 pub mod Turned
 pub mod Shut
 pub mod Replays

@@ -15,6 +15,7 @@ pub mod Watchdog
 pub mod Tolerated
 pub mod Short
 pub mod Release
+pub mod Granted
 pub mod Replays
 pub mod Unique
 pub mod Bench
