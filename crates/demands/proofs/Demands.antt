@@ -21,7 +21,7 @@ use Rattle.demands.proofs.Playing.{replay-plays, records-are-answered, 
 use Rattle.demands.proofs.Reached.{secrets-in-replay, only-agreeing-reach}
 use Rattle.demands.proofs.Runs.{refused-changes-nothing, states-stay-valid, memory-keeps-its-length, demand-3}
 use Rattle.demands.proofs.Release.{same-where-zero, accepted-if-zero}
-use Rattle.demands.proofs.Stray.{first-is-told}
+use Rattle.demands.proofs.Beside.{first-is-told, named-octets}
 use Rattle.demands.proofs.SameFields.{same-fields-same-fate}
 use Rattle.demands.proofs.Short.{short-replies, no-memory-commands, profile-is-not-checked}
 use Rattle.demands.proofs.ShortBench.{short-cases, short-by-law}
@@ -127,5 +127,6 @@ pub request-13 : Request13
 request-13 = record {
   the-same-where-they-are-zero = same-where-zero;
   accepted-exactly-if-zero = accepted-if-zero;
-  the-first-such-octet = first-is-told;
+  the-first-such-octet-is-told = first-is-told;
+  the-named-octets = named-octets;
 }

@@ -25,6 +25,7 @@ pub mod SameFields
 pub mod Unnamed
 pub mod Stray
 pub mod Release
+pub mod Beside
 pub mod Cells
 pub mod Granted
 pub mod GrantedRuns

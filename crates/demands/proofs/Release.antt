@@ -20,6 +20,7 @@ use Rattle.law.specs.Exchange.{Fate, code, missed, refused, checked, judged, fa
 use Rattle.law.specs.Calls.{Result, result, done, exchange}
 use Rattle.law.proofs.Calls.{exchange-good}
 use Rattle.law.proofs.Laid.{when-yes, when-no}
+use Rattle.law.proofs.Zeros.{alarmed}
 use Rattle.slave.specs.Exchange.{Left, exchangeOf}
 use Rattle.demands.specs.Accepted.{Executed}
 use Rattle.demands.specs.Answered.{Answered, alarmIn, toleratedIn}
@@ -36,18 +37,18 @@ not-two releases h =
     ⊎-elim (λ (e : releases ≡ []). ap (λ (rs : List ℕ). isRelease2 (ruled rs h)) e) (λ (e : releases ≡ 1 ∷ []). ap (λ (rs : List ℕ). isRelease2 (ruled rs h)) e)
 
 module _ (h : Sheet) (releases : List ℕ) (one : Release1 releases) (s m c : List ℕ) where
-  abbrev low : Sheet
+  abbrev pub low : Sheet
   low = ruled releases h
 
-  abbrev high : Sheet
+  abbrev pub high : Sheet
   high = ruled release2 h
 
   -- the check of both, where the octet that should be zero is x
-  abbrev zeroCheck : ℕ → Check
+  abbrev pub zeroCheck : ℕ → Check
   zeroCheck x = check (eqb x 0) 9 x
 
   -- a row of the two tables: the same, but for one check behind the first n
-  record Pair (t : PduType) (r q : Row) : Type 0 where
+  pub record Pair (t : PduType) (r q : Row) : Type 0 where
     pub n : ℕ
     pub code : r .code ≡ q .code
     pub links : r .links ≡ q .links
@@ -55,28 +56,30 @@ module _ (h : Sheet) (releases : List ℕ) (one : Release1 releases) (s m c : Li
     pub first : r .checks ≡ take n (r .checks) ++ zeroCheck (strayIn low s m c t (r .named)) ∷ drop (suc n) (r .checks)
     pub second : q .checks ≡ take n (r .checks) ++ zeroCheck (strayIn high s m c t (r .named)) ∷ drop (suc n) (r .checks)
     pub done : doneRow r ≡ doneRow q
+    pub nine : alarmed 9 (take n (r .checks)) ≡ true
+    pub ten : alarmed 10 (drop (suc n) (r .checks)) ≡ true
 
-  abbrev Pairs : PduType → List Row → List Row → Type 0
+  abbrev pub Pairs : PduType → List Row → List Row → Type 0
   Pairs t [] [] = Unit {0}
   Pairs t [] (q ∷ qs) = ⊥
   Pairs t (r ∷ rs) [] = ⊥
   Pairs t (r ∷ rs) (q ∷ qs) = Pair t r q × Pairs t rs qs
 
-  rows-pair : (t : PduType) → Pairs t (tableOf low s m c t) (tableOf high s m c t)
+  pub rows-pair : (t : PduType) → Pairs t (tableOf low s m c t) (tableOf high s m c t)
   unfolding when
   rows-pair enhanced =
-      (record { n = 0; code = refl; links = refl; named = refl; first = refl; second = refl; done = refl }, (record { n = 3; code = refl; links = refl; named = refl; first = refl; second = refl; done = refl }, (record { n = 3; code = refl; links = refl; named = refl; first = refl; second = refl; done = refl }, (record { n = 4; code = refl; links = refl; named = refl; first = refl; second = refl; done = refl }, (record { n = 2; code = refl; links = refl; named = refl; first = refl; second = refl; done = refl }, (record { n = 1; code = refl; links = refl; named = refl; first = refl; second = refl; done = refl }, (record { n = 0; code = refl; links = refl; named = refl; first = refl; second = refl; done = refl }, (record { n = 4; code = refl; links = refl; named = refl; first = refl; second = refl; done = refl }, (record { n = 0; code = refl; links = refl; named = refl; first = refl; second = refl; done = refl }, (record { n = 4; code = refl; links = refl; named = refl; first = refl; second = refl; done = refl }, (record { n = 4; code = refl; links = refl; named = refl; first = refl; second = refl; done = refl }, tt)))))))))))
+      (record { n = 0; code = refl; links = refl; named = refl; first = refl; second = refl; done = refl; nine = refl; ten = refl }, (record { n = 3; code = refl; links = refl; named = refl; first = refl; second = refl; done = refl; nine = refl; ten = refl }, (record { n = 3; code = refl; links = refl; named = refl; first = refl; second = refl; done = refl; nine = refl; ten = refl }, (record { n = 4; code = refl; links = refl; named = refl; first = refl; second = refl; done = refl; nine = refl; ten = refl }, (record { n = 2; code = refl; links = refl; named = refl; first = refl; second = refl; done = refl; nine = refl; ten = refl }, (record { n = 1; code = refl; links = refl; named = refl; first = refl; second = refl; done = refl; nine = refl; ten = refl }, (record { n = 0; code = refl; links = refl; named = refl; first = refl; second = refl; done = refl; nine = refl; ten = refl }, (record { n = 4; code = refl; links = refl; named = refl; first = refl; second = refl; done = refl; nine = refl; ten = refl }, (record { n = 0; code = refl; links = refl; named = refl; first = refl; second = refl; done = refl; nine = refl; ten = refl }, (record { n = 4; code = refl; links = refl; named = refl; first = refl; second = refl; done = refl; nine = refl; ten = refl }, (record { n = 4; code = refl; links = refl; named = refl; first = refl; second = refl; done = refl; nine = refl; ten = refl }, tt)))))))))))
   rows-pair short =
-      (record { n = 0; code = refl; links = refl; named = refl; first = refl; second = refl; done = refl }, (record { n = 3; code = refl; links = refl; named = refl; first = refl; second = refl; done = refl }, (record { n = 3; code = refl; links = refl; named = refl; first = refl; second = refl; done = refl }, (record { n = 4; code = refl; links = refl; named = refl; first = refl; second = refl; done = refl }, (record { n = 1; code = refl; links = refl; named = refl; first = refl; second = refl; done = refl }, (record { n = 1; code = refl; links = refl; named = refl; first = refl; second = refl; done = refl }, (record { n = 0; code = refl; links = refl; named = refl; first = refl; second = refl; done = refl }, (record { n = 3; code = refl; links = refl; named = refl; first = refl; second = refl; done = refl }, (record { n = 0; code = refl; links = refl; named = refl; first = refl; second = refl; done = refl }, tt)))))))))
+      (record { n = 0; code = refl; links = refl; named = refl; first = refl; second = refl; done = refl; nine = refl; ten = refl }, (record { n = 3; code = refl; links = refl; named = refl; first = refl; second = refl; done = refl; nine = refl; ten = refl }, (record { n = 3; code = refl; links = refl; named = refl; first = refl; second = refl; done = refl; nine = refl; ten = refl }, (record { n = 4; code = refl; links = refl; named = refl; first = refl; second = refl; done = refl; nine = refl; ten = refl }, (record { n = 1; code = refl; links = refl; named = refl; first = refl; second = refl; done = refl; nine = refl; ten = refl }, (record { n = 1; code = refl; links = refl; named = refl; first = refl; second = refl; done = refl; nine = refl; ten = refl }, (record { n = 0; code = refl; links = refl; named = refl; first = refl; second = refl; done = refl; nine = refl; ten = refl }, (record { n = 3; code = refl; links = refl; named = refl; first = refl; second = refl; done = refl; nine = refl; ten = refl }, (record { n = 0; code = refl; links = refl; named = refl; first = refl; second = refl; done = refl; nine = refl; ten = refl }, tt)))))))))
 
   -- what is checked of a row goes by what it does
-  by-done : (ks : List Check) (r q : Row) → doneRow r ≡ doneRow q → checked s ks r ≡ checked s ks q
+  pub by-done : (ks : List Check) (r q : Row) → doneRow r ≡ doneRow q → checked s ks r ≡ checked s ks q
   unfolding checked
   by-done [] r q e = e
   by-done (k ∷ ks) r q e = ap (λ (f : Fate). when (k .holds) f (refused s (k .alarm) (k .place))) (by-done ks r q e)
 
   -- where the octet is none, so is it for both
-  low-none : (t : PduType) (r : Row) → strayIn low s m c t (r .named) ≡ 0
+  pub low-none : (t : PduType) (r : Row) → strayIn low s m c t (r .named) ≡ 0
   low-none t r = when-no _ _ (not-two releases h one)
 
   pair-same : (t : PduType) (r q : Row) → Pair t r q → stray t (r .named) c ≡ 0 → checked s (allChecks s r) r ≡ checked s (allChecks s q) q
@@ -124,7 +127,7 @@ module _ (h : Sheet) (releases : List ℕ) (one : Release1 releases) (s m c : Li
   head-same enhanced alarm u = refl
   head-same short alarm u = refl
 
-  done-same : (f : Fate) → done low s m c f ≡ done high s m c f
+  pub done-same : (f : Fate) → done low s m c f ≡ done high s m c f
   unfolding replyFor
   done-same f =
       let u = stateAfter s (mn low c) (f .changes) in
@@ -149,7 +152,7 @@ module _ (h : Sheet) (releases : List ℕ) (one : Release1 releases) (s m c : Li
         (ap (done low s m c) fate-same ∙ done-same (fateOf high s m c))
 
 -- a well-formed sheet with release 1 is one with release 2
-with-two : (h : Sheet) (releases : List ℕ) → WellFormed (ruled releases h) → WellFormed (ruled release2 h)
+pub with-two : (h : Sheet) (releases : List ℕ) → WellFormed (ruled releases h) → WellFormed (ruled release2 h)
 with-two h releases w = record {
   l = w .l;
   version = w .version;
@@ -207,7 +210,7 @@ executed-by h a b s x y e f ex = record {
 }
 
 -- a state's validity does not go by the release
-valid-too : (h : Sheet) (a b s : List ℕ) → validState (ruled a h) s ≡ validState (ruled b h) s
+pub valid-too : (h : Sheet) (a b s : List ℕ) → validState (ruled a h) s ≡ validState (ruled b h) s
 unfolding validState
 valid-too h a b s = refl
 

@@ -1,7 +1,7 @@
 -- The first octet that is not named and not zero: what it is, and when there is none.
 --     stray-zero       where every octet may be what it is, there is none
 --     zero-stray       and where there is none, every octet may be
---     first-is-told    and where there is one, it is the first
+--     first-stray      and where there is one, it is the first
 use mathlib.Core.Bool.{Bool, true, false, _||_}
 use mathlib.Core.List.{List, [], _∷_, _++_}
 use mathlib.Core.Logic.{_⊎_, inl, inr, ⊎-elim}
@@ -17,7 +17,7 @@ use Rattle.law.specs.Words.{when, octet}
 use Rattle.law.specs.Sheet.{PduType, enhanced, short}
 use Rattle.law.specs.Table.{Run, headNamed, isNamed, unnamedBits, strayFrom, stray}
 use Rattle.law.proofs.Laid.{when-yes, when-no}
-use Rattle.demands.specs.Release.{ZeroUnlessNamed, FirstStray, TheFirstIsTold}
+use Rattle.demands.specs.Release.{ZeroUnlessNamed, FirstStray}
 
 shift : (k j : ℕ) → k + suc j ≡ suc k + j
 shift k j = omega arith
@@ -148,8 +148,8 @@ module _ (t : PduType) (named : List Run) (c : List ℕ) where
   zero-stray z =
       ⊎-elim (λ a k l. of-may k (a .1 k l)) (λ f. absurd (not-code f z)) (found-from t (headNamed t ++ named) 0 c)
 
-pub first-is-told : TheFirstIsTold
-first-is-told t named c some =
+pub first-stray : (t : PduType) (named : List Run) (c : List ℕ) → (stray t named c ≡ 0 → ⊥) → FirstStray t named c (stray t named c)
+first-stray t named c some =
     ⊎-elim (λ a. absurd (some (a .0)))
     (λ f. record {
       in-the-command = (let l = f .inside in let e = f .is in omega arith);

@@ -59,7 +59,7 @@ ProfileIsNotChecked =
     → Answered (withProfile h profile) (sheetOctets (withProfile h profile)) state memory command reply
     → exchangeOf (sheetOctets (withProfile h profile)) state memory command reply ≡ exchangeOf (sheetOctets (withProfile h other)) state memory command reply
 
--- two commands that have the same in the octets that the short type names: the code, WDT, and the fields of that code
+-- two commands that have the same in the octets that the short type names: the code, WDT, and the fields of that code; of PRM_WR all that its data could take
 pub record SameNamed (c d : List ℕ) : Type 0 where
   pub long : length c ≡ length d
   pub codes : octet c 0 ≡ octet d 0
@@ -110,8 +110,8 @@ pub record SameFields (h : Sheet) (c d : List ℕ) : Type 0 where
   pub connections : octet c 0 ≡ 0x0E → (octet c 4 ≡ octet d 4) × (octet c 5 ≡ octet d 5) × (octet c 6 ≡ octet d 6) × (octet d 7 ≡ h .profile)
 
 -- "States, watchdog, rights and latches are those of the enhanced type": two exchanges from one state and memory, by sheets that differ in the type alone, whose
--- commands have the same fields, come to the same alarm and place, the same next state and the same memory; in release 1, and in release 2 too where their
--- other octets are zero (request 13)
+-- commands have the same fields, come to the same alarm and place, the same next state and the same memory; in release 1, to which release 2 comes
+-- where their other octets are zero (request 13)
 abbrev pub SameFieldsSameFate : Type 0
 SameFieldsSameFate =
     (h : Sheet) (state memory c d r q : List ℕ) → isRelease2 h ≡ false

@@ -22,7 +22,7 @@ GoodSofar nothing = Unit {0}
 GoodSofar (records h) = WellFormed h
 
 -- "The link record comes first and once; then regions, parameters, ID items, end": an end record first is out of place too. Request 7: "kind 05 beside kind 01
--- is 13". The tolerance comes "after the ID items and at most once", the release "last before the end, .. at most once"
+-- is 13". The tolerance comes "after the ID items and at most once", the release "last before the end", at most once
 abbrev pub InPlace : Sofar → ℕ → Type 0
 InPlace nothing kind = (t : PduType) × (kind ≡ linkKind t)
 InPlace (records h) kind =
