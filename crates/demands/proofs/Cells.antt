@@ -6,7 +6,7 @@ use mathlib.Core.Bool.{Bool, true, false, _&&_}
 use mathlib.Core.List.{List, [], _∷_, _++_}
 use mathlib.Core.Logic.{⊎-elim}
 use mathlib.Core.Path.{_≡_, refl, sym, ap, ap₂, subst, _∙_}
-use Prim.Native.Nat.{ℕ, zero, suc, _+_}
+use Prim.Native.Nat.{ℕ, zero, suc, _+_, _≤_}
 use native.Mathlib.Omega.{arith}
 use lib.Dec.{eqb}
 use lib.ListN.{drop, getD}
@@ -20,10 +20,10 @@ abbrev pub Granting : List Cell → List Cell → Type 0
 Granting [] [] = Unit {0}
 Granting [] (y ∷ ys) = ⊥
 Granting (x ∷ xs) [] = ⊥
-Granting (x ∷ xs) (y ∷ ys) = (x .address ≡ y .address) × ((k : ℕ) → bit (x .rights) k ≡ true → bit (y .rights) k ≡ true) × Granting xs ys
+Granting (x ∷ xs) (y ∷ ys) = (x .address ≡ y .address) × ((k : ℕ) → k ≤ 2 → bit (x .rights) k ≡ true → bit (y .rights) k ≡ true) × Granting xs ys
 
 -- one region's cells, and those behind them
-from-grant : (start n a b : ℕ) → ((k : ℕ) → bit a k ≡ true → bit b k ≡ true) → (xs ys : List Cell) → Granting xs ys
+from-grant : (start n a b : ℕ) → ((k : ℕ) → k ≤ 2 → bit a k ≡ true → bit b k ≡ true) → (xs ys : List Cell) → Granting xs ys
     → Granting (cellsFrom start n a ++ xs) (cellsFrom start n b ++ ys)
 from-grant start zero a b more xs ys g = g
 from-grant start (suc n) a b more xs ys g = (refl, more, from-grant (suc start) n a b more xs ys g)
@@ -45,18 +45,18 @@ room-same (r ∷ rs) (q ∷ qs) g = ap₂ (λ (a b : ℕ). a + b) (g .0 .long) (
 
 -- a right that is asked by a bit
 abbrev pub Asks : (ℕ → Bool) → Type 0
-Asks right = (a b : ℕ) → ((k : ℕ) → bit a k ≡ true → bit b k ≡ true) → right a ≡ true → right b ≡ true
+Asks right = (a b : ℕ) → ((k : ℕ) → k ≤ 2 → bit a k ≡ true → bit b k ≡ true) → right a ≡ true → right b ≡ true
 
 pub readable-asks : Asks readable
-readable-asks a b more e = more 0 e
+readable-asks a b more e = more 0 (omega arith) e
 
 pub writable-asks : (link : ℕ) → Asks (writable link)
 unfolding when
 writable-asks link a b more = by (eqb link 3)
   where
     by : (t : Bool) → when t (bit a 2) (bit a 1) ≡ true → when t (bit b 2) (bit b 1) ≡ true
-    by true e = more 2 e
-    by false e = more 1 e
+    by true e = more 2 (omega arith) e
+    by false e = more 1 (omega arith) e
 
 has-grant : (right : ℕ → Bool) → Asks right → (xs ys : List Cell) → Granting xs ys → (a : ℕ) → has right xs a ≡ true → has right ys a ≡ true
 unfolding has when

@@ -116,7 +116,7 @@ module _ (h : Sheet) (more : List Region) (w : WellFormed h) (w₂ : WellFormed 
       (lt-or-le (y .at) (h .l))
       ∙ ap (λ (x : Left). onStep (h .l) k (steppedOf (h .l) s m (t .reply) x) (λ a b. playOf two (h .l) (suc k) a b ts)) e
 
-  replay-granted : (s m trace : List ℕ) → NoTenIn h s m (tracedOf (h .l) trace) → replayOf one s m trace ≡ replayOf two s m trace
+  pub replay-granted : (s m trace : List ℕ) → NoTenIn h s m (tracedOf (h .l) trace) → replayOf one s m trace ≡ replayOf two s m trace
   unfolding replayOf
   replay-granted s m trace calm =
       on-valid _ _ _ _ (complete h w)

@@ -14,6 +14,7 @@ use Rattle.law.specs.Promises.{Promises}
 use Rattle.slave.specs.Exchange.{Left}
 use Rattle.demands.specs.Accepted.{AcceptanceIsExact, RightsOverWholeSpan}
 use Rattle.demands.specs.Bench.{SheetPIsValid, BenchCases}
+use Rattle.demands.specs.Granted.{MoreRightsChangeNothing, TraceAgreesToo, NotWithoutIt}
 use Rattle.demands.specs.Hidden.{Demand3}
 use Rattle.demands.specs.Identity.{IdentityComesBack, ControlIsIgnored}
 use Rattle.demands.specs.Idle.{Demand2, KeepsSecrets, AgreesWhereReached, refusesAll, singleReply, storesNothing, echoesAfterwards, inventsRsn}
@@ -167,6 +168,15 @@ pub record Request9 : Type 0 where
   pub passing-counts-none : PassingCountsNone
   -- "A call turns a valid old record into a new one."
   pub an-old-record-is-turned : OldRecordsTurn
+
+-- Document 02, request 11, "More rights must not change what worked": "all answers, replies, states and memories are the same under both; prove it." For both types,
+-- both releases and every tolerance; places are in the answers.
+pub record Request11 : Type 0 where
+  pub more-rights-change-nothing : MoreRightsChangeNothing
+  -- a trace that the first sheet's drive answered without alarm 10 is told the same
+  pub its-traces-agree-too : TraceAgreesToo
+  -- "in which the first sheet never gives alarm 10"
+  pub not-without-it : NotWithoutIt
 
 -- Document 02, request 13, "Reserved octets, release 2": "a command octet that document 01 doesn't name must be zero. .. Demands 2 and 3 and request 11 hold under
 -- each." Demands 1 to 3 above are of every sheet, of either release; so are requests 3, 5, 6, 8 and 9, and of 1 and 7 all but what says that such octets are

@@ -15,8 +15,8 @@ pub mod Watchdog
 pub mod Tolerated
 pub mod Short
 pub mod Release
-pub mod Granted
 pub mod Replays
+pub mod Granted
 pub mod Unique
 pub mod Bench
 pub mod LawBench
