@@ -154,7 +154,8 @@ static int exchange(struct host *host)
 }
 
 /* A fresh command: all octets zero but the code and WDT, which follows the last
- * reply; out of step, WDT is not looked at. */
+ * reply; out of step, WDT is not looked at.  Under release 2 of the drive rules an
+ * octet that the command does not name has to stay zero. */
 static uint8_t *command(struct host *host, uint8_t code)
 {
     memset(host->command, 0, sizeof host->command);

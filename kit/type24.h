@@ -25,7 +25,8 @@
  *   type24_octets.h    lengths; the octets of sheet, state record, commands,
  *                      replies and traces
  *   type24_short.h     the octets of the short type; which type a sheet selects
- *   type24_records.h   how long a sheet's records are, and what one tolerates
+ *   type24_records.h   how long a sheet's records are, what one tolerates, and
+ *                      which release of the drive rules it asks for
  *   type24_answers.h   what a call answers: its number, its place, in words
  *   type24_reply.h     what a reply tells: its alarm, a lost cycle, identity
  *   type24_watchdog.h  the counts that are sent in step
@@ -116,6 +117,9 @@ uint64_t t24_enable(const uint8_t *sheet, size_t sheet_len,
  *    or _SIZE, T24_ID_AT_CODE or _SIZE, T24_ALM_AT_MODE, T24_CONNECT_AT_VERSION,
  *    _COM_MOD, _COM_TIME or _PROFILE, T24_MEM_AT_ELEMENT, _COUNT or _ADDRESS;
  *    but 0 for ALM_RD at L 8; in the short type the same, as far as it has them;
+ *  - alarm 9 where all fields are right, which a sheet alone has that asks for
+ *    release 2 of the drive rules: the first octet that must be zero and is not,
+ *    since the command does not name it; 2 means its bits 0 to 5 (RULES 7.24);
  *  - alarm 10 how many octets of the span come before the first that lacks the
  *    right, so that the span's address + place is the address of that one;
  *  - alarms 8 and 12, a lost cycle, tolerated or not, and an accepted command 0.

@@ -10,6 +10,7 @@
 
 #include "type24.h"
 #include "type24_pdu_words.h"
+#include "type24_reserved_words.h"
 #include "type24_text.h"
 #include "type24_walk.h"
 
@@ -95,13 +96,16 @@ static inline int t24_has_span(const uint8_t *sheet, uint32_t code)
 
 /*
  * What was wrong with a refused command of this code, by the reply's alarm and
- * the place of the exchange's answer: "size", "com_time", "address"; for alarm
- * 10 "octet of the span"; for alarms 8 and 12, which have no place, "code".
+ * the place of the exchange's answer: "size", "com_time", "address"; "reserved
+ * octet", or of octet 2 "reserved bits", where none of its fields begins, as a
+ * sheet of release 2 of the drive rules has it; for alarm 10 "octet of the span";
+ * for alarms 8 and 12, which have no place, "code".
  */
 static inline const char *t24_field_words(const uint8_t *sheet, uint32_t code,
                                           uint32_t alarm, uint32_t place)
 {
     const struct t24_data_check *check = t24_data_check_at(sheet, code, place);
+    const char *reserved = t24_reserved_words(sheet, code, place);
 
     if (alarm == T24_ALARM_CODE || alarm == T24_ALARM_LINK)
         return "code";
@@ -109,6 +113,8 @@ static inline const char *t24_field_words(const uint8_t *sheet, uint32_t code,
         return "octet of the span";
     if (alarm == T24_ALARM_DATA && check != NULL)
         return check->field;
+    if (alarm == T24_ALARM_DATA && reserved != NULL)
+        return reserved;
     return T24_NO_FIELD;
 }
 
@@ -187,12 +193,14 @@ static inline void t24_put_lacking(struct t24_text *text, uint32_t code,
 /*
  * Why a command was refused, by the reply's alarm and the place of the
  * exchange's answer: for alarm 9 "alarm 9 at octet 6, size: not the
- * parameter's, or more than L - 8", for alarm 10 "alarm 10: octet 2 of the
- * span, at address 00001004, lacks the right to be read", for 8 and 12 the
+ * parameter's, or more than L - 8", or "alarm 9: octet 7 must be zero" where the
+ * sheet asks for release 2 of the drive rules, for alarm 10 "alarm 10: octet 2 of
+ * the span, at address 00001004, lacks the right to be read", for 8 and 12 the
  * alarm and t24_alarm_words(); "no alarm" for 0.  The link is the state
  * record's, before or after the exchange, since a refused command keeps it.
  * Sheet and command may be left out, with length 0: then what they tell is not
- * said, the type counts as the enhanced one and the command as zeros.
+ * said, the type counts as the enhanced one, the rule release as 1 and the
+ * command as zeros.
  */
 static inline size_t t24_refused_command_words(
     const uint8_t *sheet, size_t sheet_len, uint32_t link,
@@ -216,7 +224,9 @@ static inline size_t t24_refused_command_words(
     }
     t24_put(&made, "alarm ");
     t24_put_decimal(&made, alarm);
-    if (alarm == T24_ALARM_DATA) {
+    if (alarm == T24_ALARM_DATA && t24_strays(sheet, sheet_len, &pdu, place)) {
+        t24_put_stray(&made, typed, place);
+    } else if (alarm == T24_ALARM_DATA) {
         t24_put_check(&made, typed, code, place);
     } else if (alarm == T24_ALARM_RIGHTS && t24_has_span(typed, code)) {
         t24_put_lacking(&made, code, link, place, known ? &address : NULL);

@@ -25,7 +25,8 @@
 /*
  * Sheet (RULES 3): an octet of kind and a body.  First one link record, of the
  * enhanced type or of the short type, then regions, parameters and ID items, then
- * at most one tolerance record, at last the end record.
+ * at most one tolerance record and at most one rule release record, at last the
+ * end record.
  */
 #define T24_RECORD_END 0x00
 #define T24_RECORD_LINK 0x01      /* L (1), version (1), profile (1) */
@@ -34,6 +35,7 @@
 #define T24_RECORD_ID 0x04        /* code (1), length (1), 32 octets */
 #define T24_RECORD_SHORT_LINK 0x05 /* as the link record; L is 16 */
 #define T24_RECORD_TOLERANCE 0x06 /* lost cycles in a row (1) */
+#define T24_RECORD_RULE_RELEASE 0x07 /* release of the drive rules (1) */
 #define T24_RECORD_END_LEN 1 /* octets of a record, its kind among them */
 #define T24_RECORD_LINK_LEN 4
 #define T24_RECORD_REGION_LEN 10
@@ -41,6 +43,7 @@
 #define T24_RECORD_ID_LEN 35
 #define T24_RECORD_SHORT_LINK_LEN 4
 #define T24_RECORD_TOLERANCE_LEN 2
+#define T24_RECORD_RULE_RELEASE_LEN 2
 
 #define T24_SHEET_AT_L 1 /* of the sheet: its first is a link record */
 #define T24_SHEET_AT_VERSION 2
@@ -55,6 +58,7 @@
 #define T24_ITEM_AT_LENGTH 2 /* 1 to T24_ITEM_OCTETS */
 #define T24_ITEM_AT_OCTETS 3 /* those past the length are zero */
 #define T24_TOLERANCE_AT_COUNT 1 /* 0 to T24_TOLERANCE_MAX */
+#define T24_RULE_RELEASE_AT_NUMBER 1 /* 1 to T24_RULE_RELEASE_MAX */
 
 #define T24_RIGHT_READ 0x01 /* rights of a region (RULES 4.3) */
 #define T24_RIGHT_WRITE_ASYNC 0x02
@@ -66,6 +70,7 @@
 #define T24_PARAMETER_SIZE_MAX 56
 #define T24_ITEM_OCTETS 32
 #define T24_TOLERANCE_MAX 3
+#define T24_RULE_RELEASE_MAX 2 /* 2: reserved octets of a command must be zero */
 
 /* State record (RULES 5.3; RULES 5.1): eleven octets.  One of release 1 has the
  * first ten of them, and another kind. */
@@ -108,9 +113,13 @@
  *         entered SyncConnected, which may have any; t24_next_wdt() makes WDT
  *   2     control: T24_IDENTITY, which the reply has again, so that a master
  *         that repeats a command can tell the replies apart; other bits are
- *         not looked at
- *   3     control, not looked at
- *   4..   the fields named with the command; others are not looked at
+ *         reserved
+ *   3     control, reserved
+ *   4..   the fields named with the command; others are reserved, and so are
+ *         those behind written data
+ * Reserved octets are not looked at under release 1 of the drive rules.  Under
+ * release 2 of the drive rules they must be zero, else alarm 9 (RULES 7.24);
+ * t24_rule_release() tells which of the two a sheet asks for.
  */
 #define T24_COMMAND_AT_CODE 0
 #define T24_COMMAND_AT_WDT 1
@@ -139,9 +148,11 @@
 /*
  * Commands (RULES 7).  Checked in this order: a code that is not here
  * gives alarm 8, a link that is not named with it alarm 12, the first wrong
- * field, by the order of octets, alarm 9, a span without the right alarm 10.
- * For alarm 9 the place of t24_exchange's answer is the constant of that field,
- * as "place" says below; for alarm 10 it counts in the span (RULES 8.11).
+ * field, by the order of octets, alarm 9, then under release 2 of the drive rules
+ * the first reserved octet that is not zero alarm 9, a span without the right
+ * alarm 10.  For alarm 9 the place of t24_exchange's answer is the constant of
+ * that field, as "place" says below, or that reserved octet; for alarm 10 it
+ * counts in the span (RULES 8.11).
  *
  * NOP: links 1, 2 and 3.  No field, no effect; body zeros.
  */

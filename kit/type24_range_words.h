@@ -105,6 +105,11 @@ static inline int t24_say_range(struct t24_text *text,
         return value > T24_TOLERANCE_MAX
             && t24_say_field(text, walk, ", lost cycles ", value,
                              ": only 0 to 3");
+    case T24_RECORD_RULE_RELEASE:
+        value = record[T24_RULE_RELEASE_AT_NUMBER];
+        return (value == 0 || value > T24_RULE_RELEASE_MAX)
+            && t24_say_field(text, walk, ", rule release ", value,
+                             ": only 1 or 2");
     default:
         return 0;
     }

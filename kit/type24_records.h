@@ -1,6 +1,7 @@
 /*
- * type24_records.h - how long a sheet's records are, and how many lost cycles
- * in a row a sheet tolerates (RULES 3.2).  Comes with type24.h.
+ * type24_records.h - how long a sheet's records are, how many lost cycles in a
+ * row a sheet tolerates, and which release of the drive rules it asks for (RULES
+ * 3.2).  Comes with type24.h.
  */
 #ifndef TYPE24_RECORDS_H
 #define TYPE24_RECORDS_H
@@ -21,28 +22,47 @@ static inline size_t t24_record_len(uint8_t kind)
     case T24_RECORD_ID: return T24_RECORD_ID_LEN;
     case T24_RECORD_SHORT_LINK: return T24_RECORD_SHORT_LINK_LEN;
     case T24_RECORD_TOLERANCE: return T24_RECORD_TOLERANCE_LEN;
+    case T24_RECORD_RULE_RELEASE: return T24_RECORD_RULE_RELEASE_LEN;
     default: return 0;
     }
 }
 
-/*
- * How many lost cycles in a row a valid sheet tolerates, 0 to
- * T24_TOLERANCE_MAX: the count of its tolerance record, and 0 without one.  Of
- * a sheet that is not valid nothing outside it is read.
- */
-static inline uint32_t t24_tolerance(const uint8_t *sheet, size_t sheet_len)
+/* The one octet that a record of this kind has behind its kind, or what holds
+ * without such a record.  Of a sheet that is not valid nothing outside it is
+ * read. */
+static inline uint32_t t24_only_octet(const uint8_t *sheet, size_t sheet_len,
+                                      uint8_t kind, uint32_t without)
 {
     size_t at = 0, len;
 
     while (at < sheet_len && sheet[at] != T24_RECORD_END) {
         len = t24_record_len(sheet[at]);
         if (len == 0 || len > sheet_len - at)
-            return 0;
-        if (sheet[at] == T24_RECORD_TOLERANCE)
-            return sheet[at + T24_TOLERANCE_AT_COUNT];
+            return without;
+        if (sheet[at] == kind)
+            return sheet[at + 1];
         at += len;
     }
-    return 0;
+    return without;
+}
+
+/*
+ * How many lost cycles in a row a valid sheet tolerates, 0 to
+ * T24_TOLERANCE_MAX: the count of its tolerance record, and 0 without one.
+ */
+static inline uint32_t t24_tolerance(const uint8_t *sheet, size_t sheet_len)
+{
+    return t24_only_octet(sheet, sheet_len, T24_RECORD_TOLERANCE, 0);
+}
+
+/*
+ * Which release of the drive rules a valid sheet asks for, 1 to
+ * T24_RULE_RELEASE_MAX: the number of its rule release record, and 1 without one.
+ * It is not the release of the kit, which t24_version() tells.
+ */
+static inline uint32_t t24_rule_release(const uint8_t *sheet, size_t sheet_len)
+{
+    return t24_only_octet(sheet, sheet_len, T24_RECORD_RULE_RELEASE, 1);
 }
 
 #endif

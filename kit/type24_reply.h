@@ -15,7 +15,7 @@
 /* Alarms in a reply and in the latches (RULES 6.6). */
 #define T24_ALARM_NONE 0
 #define T24_ALARM_CODE 8           /* unknown command code */
-#define T24_ALARM_DATA 9           /* a field of the command is wrong */
+#define T24_ALARM_DATA 9           /* an octet of the command is wrong */
 #define T24_ALARM_RIGHTS 10        /* the span lacks the right somewhere */
 #define T24_ALARM_LINK 12          /* code not allowed in this link */
 #define T24_ALARM_COMMUNICATION 12 /* MN did not follow, or SN was not RSN */
@@ -71,7 +71,7 @@ static inline const char *t24_alarm_words(uint32_t alarm)
     switch (alarm) {
     case T24_ALARM_NONE: return "accepted";
     case T24_ALARM_CODE: return "unknown command code";
-    case T24_ALARM_DATA: return "a field of the command is wrong";
+    case T24_ALARM_DATA: return "an octet of the command is wrong";
     case T24_ALARM_RIGHTS: return "no right to part of the span";
     case T24_ALARM_LINK: return "command not allowed in this link";
     default: return "not an alarm of this library";

@@ -42,20 +42,27 @@ static inline int t24_say_kind(struct t24_text *text,
         return 0;
     t24_put(text, "kind ");
     t24_put_hex(text, walk->sheet[walk->at], 2);
-    t24_put(text, " is unknown: a record begins with 00 to 06");
+    t24_put(text, " is unknown: a record begins with 00 to 07");
     return 1;
 }
 
-/* 13: a region, parameter or ID item behind what comes after its kind. */
+/* 13: a region, parameter, ID item or tolerance record behind what comes after
+ * its kind. */
 static inline int t24_say_late(struct t24_text *text,
                                const struct t24_walk *walk)
 {
     const uint8_t kind = walk->sheet[walk->at];
+    const int early = kind >= T24_RECORD_REGION && kind <= T24_RECORD_ID;
+    const int rules = walk->count[T24_RECORD_RULE_RELEASE] != 0;
     const int tolerance = walk->count[T24_RECORD_TOLERANCE] != 0;
     const int items = walk->count[T24_RECORD_ID] != 0;
     const int parameters = walk->count[T24_RECORD_PARAMETER] != 0;
 
-    if (tolerance && kind >= T24_RECORD_REGION && kind <= T24_RECORD_ID) {
+    if (rules && (early || kind == T24_RECORD_TOLERANCE)) {
+        t24_put_counted(text, walk);
+        t24_put(text, " after the rule release record: that comes last before "
+                      "the end record");
+    } else if (tolerance && early) {
         t24_put_counted(text, walk);
         t24_put(text, " after the tolerance record: that comes behind regions, "
                       "parameters and ID items");
@@ -90,6 +97,7 @@ static inline int t24_say_place(struct t24_text *text,
                                 const struct t24_walk *walk)
 {
     const uint8_t kind = walk->sheet[walk->at];
+    const int rules = walk->count[T24_RECORD_RULE_RELEASE] != 0;
     const int tolerance = walk->count[T24_RECORD_TOLERANCE] != 0;
     const int link = kind == T24_RECORD_LINK || kind == T24_RECORD_SHORT_LINK;
 
@@ -102,6 +110,8 @@ static inline int t24_say_place(struct t24_text *text,
         t24_put(text, ", not with a link record, 01 or 05");
     } else if (walk->at != 0 && link) {
         return t24_say_second_link(text, walk->sheet[0], kind);
+    } else if (rules && kind == T24_RECORD_RULE_RELEASE) {
+        t24_put(text, "a second rule release record: it comes at most once");
     } else if (tolerance && kind == T24_RECORD_TOLERANCE) {
         t24_put(text, "a second tolerance record: it comes at most once");
     } else {

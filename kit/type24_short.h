@@ -20,9 +20,12 @@
 /*
  * Every command of the short type has 16 octets (RULES 7.15):
  *   0     the code, T24_COMMAND_AT_CODE
- *   1-3   reserve, not looked at: there is no identity
- *   4-14  the fields named with the command; others are not looked at
+ *   1-3   reserved: there is no identity
+ *   4-14  the fields named with the command; others are reserved, and so are
+ *         those behind written data
  *   15    WDT: low half MN, high half SN; t24_put_wdt() puts it there
+ * Reserved octets are not looked at under release 1 of the drive rules, and must
+ * be zero under release 2 of the drive rules (RULES 7.24).
  */
 #define T24_SHORT_COMMAND_AT_WDT 15
 
@@ -61,7 +64,7 @@
 #define T24_SHORT_ID_AT_DATA 7
 
 /*
- * ALM_RD, ALM_CLR: 4 mode, one octet, 0; octet 5 is reserve.
+ * ALM_RD, ALM_CLR: 4 mode, one octet, 0; octet 5 is reserved.
  * Body of ALM_RD: at 4 the mode, at 5 the command latch, at 6 the communication
  * latch, both as they were before this command.
  */

@@ -19,7 +19,7 @@ static inline uint64_t t24_low_first(const uint8_t *octets, size_t count)
     return number;
 }
 
-#define T24_KINDS (T24_RECORD_TOLERANCE + 1) /* known kinds are below this */
+#define T24_KINDS (T24_RECORD_RULE_RELEASE + 1) /* known kinds are below this */
 
 /* What stands before a place of a sheet. */
 struct t24_walk {
@@ -57,8 +57,8 @@ static inline int t24_walk_on(struct t24_walk *walk)
 static inline struct t24_walk t24_walk_to(const uint8_t *sheet,
                                           size_t sheet_len, size_t place)
 {
-    struct t24_walk walk = { sheet, sheet_len, 0, { 0, 0, 0, 0, 0, 0, 0 },
-                             { 0, 0, 0, 0, 0, 0, 0 }, 0 };
+    struct t24_walk walk = { sheet, sheet_len, 0, { 0, 0, 0, 0, 0, 0, 0, 0 },
+                             { 0, 0, 0, 0, 0, 0, 0, 0 }, 0 };
 
     while (walk.at < place && t24_walk_on(&walk))
         continue;
@@ -76,6 +76,7 @@ static inline const char *t24_kind_words(uint8_t kind)
     case T24_RECORD_ID: return " ID item";
     case T24_RECORD_SHORT_LINK: return " short link record";
     case T24_RECORD_TOLERANCE: return " tolerance record";
+    case T24_RECORD_RULE_RELEASE: return " rule release record";
     default: return " record";
     }
 }
@@ -144,6 +145,8 @@ static inline void t24_put_counted(struct t24_text *text,
         t24_put(text, "short link record");
     } else if (kind == T24_RECORD_TOLERANCE) {
         t24_put(text, "tolerance record");
+    } else if (kind == T24_RECORD_RULE_RELEASE) {
+        t24_put(text, "rule release record");
     } else {
         t24_put_ordinal(text, walk->count[kind] + 1);
         t24_put(text, t24_kind_words(kind));
@@ -191,6 +194,10 @@ static inline void t24_put_contents(struct t24_text *text,
         t24_put_count(text, t24_tolerance(walk->sheet, walk->sheet_len),
                       "lost cycle");
         t24_put(text, " in a row");
+    }
+    if (walk->count[T24_RECORD_RULE_RELEASE] != 0) {
+        t24_put(text, ", rule release ");
+        t24_put_decimal(text, t24_rule_release(walk->sheet, walk->sheet_len));
     }
 }
 

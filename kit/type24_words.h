@@ -19,6 +19,7 @@
  *   t24_reply_octet_words  executed or not             type24_octet_words.h
  *   t24_field_words        a refused command's field   type24_field_words.h
  *   t24_refused_command_words  why it was refused      type24_field_words.h
+ *   t24_reserved_words     an octet that is no field   type24_reserved_words.h
  *   t24_watchdog_words     why a cycle was lost        type24_watchdog_words.h
  *   t24_lost_words         and what comes of it        type24_watchdog_words.h
  *   t24_release_words      releases that do not fit    type24_release_words.h
@@ -35,6 +36,7 @@
 #include "type24_octet_words.h"
 #include "type24_pdu_words.h"
 #include "type24_release_words.h"
+#include "type24_reserved_words.h"
 #include "type24_sheet_words.h"
 #include "type24_state_words.h"
 #include "type24_text.h"

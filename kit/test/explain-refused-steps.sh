@@ -12,8 +12,8 @@ ours:  1D000509000000000000000000000000
 trace: 1D0005090000000000000000AABB0000
                                ^^^^
 octet 12: the body of a refused or not executed command is zero
-ours:  alarm 9, a field of the command is wrong; a latch is set
-trace: alarm 9, a field of the command is wrong; a latch is set
+ours:  alarm 9, an octet of the command is wrong; a latch is set
+trace: alarm 9, an octet of the command is wrong; a latch is set
 END
     explained 1 stdout trace sheet.bin in-step.bin memory.bin lost.bin <<'END'
 record 0, at octet 0 of the trace, differs at octet 12 of its reply

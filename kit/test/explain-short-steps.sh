@@ -60,7 +60,7 @@ ours:  01090500000000000000000000000000
 trace: 01000400070001AA0000000000000000
          ^^^^  ^^  ^^^^
 octet 1: the command's alarm
-ours:  alarm 9, a field of the command is wrong; a latch is set
+ours:  alarm 9, an octet of the command is wrong; a latch is set
 trace: accepted
 END
 }

@@ -117,7 +117,7 @@ trace: 1E0005190021010000100000B5000000
            ^^^^                ^^
 octet 2: status, low octet, with the command's identity
 ours:  accepted
-trace: alarm 9, a field of the command is wrong; communication latch 1, not an alarm of this library; a latch is set
+trace: alarm 9, an octet of the command is wrong; communication latch 1, not an alarm of this library; a latch is set
 END
     unsaid stderr
 }
@@ -239,11 +239,12 @@ explain_all() {
     explain_tolerated
     explain_turned
     explain_short
+    explain_rules
     explain_refused
     explain_refusals
     explain_usage
     explain_streams
-    echo "sheets, agreement, differences, bodies, tolerated, turned, short, refused commands, refusals, usage, streams: ok"
+    echo "sheets, agreement, differences, bodies, tolerated, turned, short, rules, refused commands, refusals, usage, streams: ok"
 }
 
 test_explain() {
@@ -254,6 +255,7 @@ test_explain() {
     make_refused_traces
     make_tolerated
     make_short
+    make_rules
     cd "$kit/test"
     explain_all "as installed" "run $dist/x86_64/libexec/t24-explain"
     $CPP "$dist/example/explain.c" $LIB -o "$work/t24-explain"

@@ -38,6 +38,8 @@ static const unsigned pair[][2] = {
     { T24_RECORD_END, 0 }, { T24_RECORD_TOLERANCE, 6 },
     { T24_RECORD_TOLERANCE_LEN, 2 }, { T24_TOLERANCE_AT_COUNT, 1 },
     { T24_TOLERANCE_MAX, 3 }, { T24_STATUS_TOLERATED, 2 },
+    { T24_RECORD_RULE_RELEASE, 7 }, { T24_RECORD_RULE_RELEASE_LEN, 2 },
+    { T24_RULE_RELEASE_AT_NUMBER, 1 }, { T24_RULE_RELEASE_MAX, 2 },
     { T24_RECORD_LINK, 1 }, { T24_RECORD_REGION, 2 },
     { T24_RECORD_PARAMETER, 3 }, { T24_RECORD_ID, 4 },
     { T24_RIGHT_READ, 1 }, { T24_RIGHT_WRITE_ASYNC, 2 },
@@ -92,7 +94,7 @@ void header_release(void)
 {
     check(t24_version() == 3, "release of the archive");
     check(t24_release_fits(), "archive and header");
-    check(strncmp(T24_VERSION, "3.", 2) == 0, "version and release");
+    check(strcmp(T24_VERSION, "3.1.0") == 0, "version and release");
 }
 
 static void answers_taken_apart(void)

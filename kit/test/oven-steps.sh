@@ -76,7 +76,8 @@ test_example_sheet() {
     (cd "$work" && sh ./make-sheet) || fail "the page's command for a sheet"
     cmp "$work/example.sheet" "$dist/example/example.sheet" || fail "example.sheet"
     cmp "$work/short.sheet" "$dist/example/short.sheet" || fail "short.sheet"
-    echo "example.sheet and short.sheet are what the page makes"
+    cmp "$work/rules.sheet" "$dist/example/rules.sheet" || fail "rules.sheet"
+    echo "example.sheet, short.sheet and rules.sheet are what the page makes"
 }
 
 test_oven() {
@@ -101,6 +102,7 @@ test_oven() {
     refused_with readonly.bin "MEM_WR refused: alarm 10: octet 0 of the span, at address 00001000, lacks the right to be written out of step"
     refused_with second.bin "MEM_WR refused: alarm 10: octet 1 of the span, at address 00001001, lacks the right to be written out of step"
     test_short_oven
+    test_ruled_oven
     test_lost_cycles
     test_pkg_config
 }
@@ -115,6 +117,23 @@ test_short_oven() {
     refused_with two-links.bin "sheet refused: 13 at octet 4: a short link record after a link record: one of them comes first and once"
     refused_with short-bare.bin "PRM_RD refused: alarm 9 at octet 4, parameter number: not in the sheet"
     refused_with short-readonly.bin "PRM_WR refused: alarm 10: octet 0 of the span, at address 00001002, lacks the right to be written out of step"
+}
+
+# Under release 2 of the drive rules the same replies come, for the host sends zeros where nothing is named; one that does not is told the octet.
+test_ruled_oven() {
+    { head -c 32 "$work/p.bin" && octets 07 02 00; } >"$work/p2.bin"
+    cmp "$work/p2.bin" "$dist/example/rules.sheet" || fail "the example's sheet under release 2 of the drive rules"
+    { head -c 32 "$work/s.bin" && octets 07 02 00; } >"$work/s2.bin"
+    { head -c 32 "$work/p.bin" && octets 07 03 00; } >"$work/p3.bin"
+    run "$work/oven" "$work/p2.bin" | cmp - "$work/p.want" || fail "oven under release 2 of the drive rules"
+    run "$work/oven" "$work/s2.bin" | cmp - "$work/s.want" || fail "short oven under release 2 of the drive rules"
+    refused_with p3.bin "sheet refused: 14 at octet 32: rule release record, rule release 3: only 1 or 2"
+    sed 's/^    memset(host->command, 0, /    memset(host->command, 0x40, /' "$dist/example/oven.c" >"$work/littering.c"
+    ! cmp -s "$dist/example/oven.c" "$work/littering.c" || fail "no edit: octets left as they were"
+    $HAND -static "$work/littering.c" $HAND_LIB -o "$work/littering"
+    must_fail "octets that a host has not made zero" "^CONNECT refused: alarm 9: octet 3 must be zero$" hand "$work/littering" "$work/p2.bin"
+    must_fail "the same with the short type" "^CONNECT refused: alarm 9: octet 1 must be zero$" hand "$work/littering" "$work/s2.bin"
+    grep -q "^CONNECT    0E090500" "$work/out" || fail "the short reply of a host that has not made octets zero"
 }
 
 # deaf NAME EDIT WORDS [SHEET]: a host with this edit in its WDT is told why its cycle was lost.

@@ -6,7 +6,7 @@
 headers_of() {
     rm -rf "$work/headers"
     cp -r "$dist/include" "$work/headers"
-    sed -e "s/T24_RELEASE 3 /T24_RELEASE $1 /" -e "s/T24_VERSION \"3\./T24_VERSION \"$1./" \
+    sed -e "s/T24_RELEASE 3 /T24_RELEASE $1 /" -e "s/T24_VERSION \"3\.[0-9.]*/T24_VERSION \"$1.0.0/" \
         "$dist/include/type24_release.h" >"$work/headers/type24_release.h"
     ! cmp -s "$dist/include/type24_release.h" "$work/headers/type24_release.h" || fail "no edit: release $1"
 }

@@ -59,13 +59,13 @@ static void unknown_kinds(void)
     struct built sheet;
 
     sheet.len = 0;
-    add_octet(&sheet, 7);
+    add_octet(&sheet, 8);
     sheet_refused("unknown kind first, cut too", &sheet, 12, 0);
     start(&sheet);
     add_octet(&sheet, 0xFF);
     sheet_refused("unknown kind second", &sheet, 12, 4);
     build_p(&sheet, 16);
-    sheet.octets[32] = 7;
+    sheet.octets[32] = 8;
     sheet_refused("unknown kind for the end", &sheet, 12, 32);
 }
 

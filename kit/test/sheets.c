@@ -85,9 +85,22 @@ void add_tolerance(struct built *sheet, unsigned count)
     add_octet(sheet, count);
 }
 
+void add_rule_release(struct built *sheet, unsigned number)
+{
+    add_octet(sheet, T24_RECORD_RULE_RELEASE);
+    add_octet(sheet, number);
+}
+
 void add_end(struct built *sheet)
 {
     add_octet(sheet, T24_RECORD_END);
+}
+
+void add_rules(struct built *sheet, unsigned number)
+{
+    sheet->len--;
+    add_rule_release(sheet, number);
+    add_end(sheet);
 }
 
 void read_hex(struct built *sheet, const char *hex)
@@ -142,5 +155,6 @@ void build_largest(struct built *sheet, unsigned l)
     for (i = 0; i < 32; i++)
         add_item(sheet, i, 32);
     add_tolerance(sheet, T24_TOLERANCE_MAX);
+    add_rule_release(sheet, T24_RULE_RELEASE_MAX);
     add_end(sheet);
 }

@@ -26,6 +26,7 @@ void add_parameter(struct built *sheet, unsigned number, uint64_t address,
                    unsigned size);
 void add_item(struct built *sheet, unsigned code, unsigned length);
 void add_tolerance(struct built *sheet, unsigned count);
+void add_rule_release(struct built *sheet, unsigned number);
 void add_end(struct built *sheet);
 
 /* The octets of a line of hex. */
@@ -40,6 +41,10 @@ void build_tolerant(struct built *sheet, unsigned l, unsigned tolerance);
 /* Sheet P with the short type, and the same with a tolerance record. */
 void build_short(struct built *sheet);
 void build_short_tolerant(struct built *sheet, unsigned tolerance);
+
+/* A sheet whose last record is the end record, with a rule release record before
+ * that. */
+void add_rules(struct built *sheet, unsigned number);
 
 /* Every record there may be: the most a call ever has to read. */
 void build_largest(struct built *sheet, unsigned l);

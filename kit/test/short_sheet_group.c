@@ -108,6 +108,8 @@ void short_sheet_places(void)
     out_of_place("behind an ID item", &sheet);
     add_tolerance(&sheet, 1);
     out_of_place("behind a tolerance", &sheet);
+    add_rule_release(&sheet, 2);
+    out_of_place("behind a rule release", &sheet);
     add_end(&sheet);
     out_of_place("behind the end", &sheet);
     sheet.len = 0;
@@ -133,7 +135,7 @@ void short_sheet_others(void)
     build_short(&sheet);
     sheet.octets[0] = T24_RECORD_REGION;
     sheet_refused("a region in its place", &sheet, 13, 0);
-    sheet.octets[0] = 7;
+    sheet.octets[0] = 8;
     sheet_refused("an unknown kind in its place", &sheet, 12, 0);
     sheet.len = 0;
     add_short_link(&sheet, 16);

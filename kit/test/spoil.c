@@ -7,6 +7,7 @@
  */
 #include "spoil.h"
 #include "spoil_lost.h"
+#include "spoil_rules.h"
 #include "spoil_short.h"
 
 #include <string.h>
@@ -15,9 +16,6 @@ uint64_t __real_t24_sheet(const uint8_t *, size_t);
 uint64_t __real_t24_lengths(const uint8_t *, size_t);
 uint64_t __real_t24_reset(const uint8_t *, size_t, uint8_t *, size_t);
 uint64_t __real_t24_enable(const uint8_t *, size_t, uint8_t *, size_t);
-uint64_t __real_t24_exchange(const uint8_t *, size_t, uint8_t *, size_t,
-                             uint8_t *, size_t, const uint8_t *, size_t,
-                             uint8_t *, size_t);
 uint64_t __real_t24_replay(const uint8_t *, size_t, uint8_t *, size_t,
                            uint8_t *, size_t, const uint8_t *, size_t);
 uint64_t __wrap_t24_sheet(const uint8_t *, size_t);
@@ -38,7 +36,7 @@ uint64_t __wrap_t24_sheet(const uint8_t *sheet, size_t len)
         return answer + ((uint64_t)1 << 32); /* a place one too far */
     if (spoil(2) && t24_number(answer) == T24_SHEET_EXCESS)
         return answer - 1; /* order told for excess */
-    return spoil_short_sheet(answer, sheet);
+    return spoil_rules_sheet(spoil_short_sheet(answer, sheet), sheet);
 }
 
 uint64_t __wrap_t24_lengths(const uint8_t *sheet, size_t len)
@@ -165,7 +163,8 @@ static const uint8_t *spoil_watchdog(const uint8_t *sheet, uint8_t *state,
 /* The same of both types, where the command's length is the sheet's L. */
 static const uint8_t *spoil_command(const uint8_t *sheet, size_t sheet_len,
                                     uint8_t *state, size_t state_len,
-                                    const uint8_t *command, size_t command_len)
+                                    size_t memory_len, const uint8_t *command,
+                                    size_t command_len)
 {
     if (sheet_len <= T24_SHEET_AT_L || command_len != sheet[T24_SHEET_AT_L]
         || command_len < T24_L8 || command_len > T24_L_MAX)
@@ -173,7 +172,12 @@ static const uint8_t *spoil_command(const uint8_t *sheet, size_t sheet_len,
     if (t24_is_short(sheet) && command_len != T24_L16)
         return command;
     command = spoil_watchdog(sheet, state, state_len, command, command_len);
-    return t24_is_short(sheet) ? spoil_short_command(sheet, command) : command;
+    if (t24_is_short(sheet))
+        command = spoil_short_command(sheet, command);
+    if (state_len != T24_STATE_LEN || t24_rule_release(sheet, sheet_len) != 2)
+        return command;
+    return spoil_reserved(sheet, sheet_len, state, memory_len, command,
+                          command_len);
 }
 
 uint64_t __wrap_t24_exchange(const uint8_t *sheet, size_t sheet_len,
@@ -183,18 +187,22 @@ uint64_t __wrap_t24_exchange(const uint8_t *sheet, size_t sheet_len,
                              uint8_t *reply, size_t reply_len)
 {
     const uint8_t *seen = spoil_command(sheet, sheet_len, state, state_len,
-                                        command, command_len);
+                                        memory_len, command, command_len);
     uint8_t before[T24_STATE_LEN] = { 0 };
     uint64_t answer;
 
     if (state_len == T24_STATE_LEN)
         memcpy(before, state, sizeof before);
-    answer = __real_t24_exchange(spoil_tolerance(sheet, sheet_len), sheet_len,
-                                 state, state_len, memory, memory_len, seen,
-                                 command_len, reply, reply_len);
+    answer = __real_t24_exchange(
+        spoil_rules(spoil_tolerance(sheet, sheet_len), sheet_len), sheet_len,
+        state, state_len, memory, memory_len, seen, command_len, reply,
+        reply_len);
     if (t24_number(answer) == T24_DONE)
         answer = spoil_tolerated(answer, sheet, before, state, memory,
                                  memory_len, reply);
+    if (t24_number(answer) == T24_DONE)
+        answer = spoil_strays(answer, sheet, sheet_len, command, command_len,
+                              state, reply);
     if (spoil_order(memory_len, command_len, reply_len, answer))
         answer = T24_BAD_REPLY;
     if (spoil(16) && t24_number(answer) == T24_DONE

@@ -252,7 +252,8 @@ static int all_codes(void)
                                      T24_ALM_RD, T24_ALM_CLR,  T24_CONNECT,
                                      T24_MEM_RD, T24_MEM_WR,   T24_SYNC_SET };
     size_t i;
-    int all = accepted[T24_NOP] > 0 && accepted[T24_DISCONNECT] > 0;
+    int all = accepted[T24_NOP] > 0 && accepted[T24_DISCONNECT] > 0
+        && refused[T24_NOP] > 0; /* by a reserved octet alone */
 
     for (i = 0; i < sizeof codes; i++)
         all = all && accepted[codes[i]] > 0 && refused[codes[i]] > 0;

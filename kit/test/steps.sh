@@ -7,11 +7,11 @@ CHECKED="valgrind -q --error-exitcode=9"
 test_contents() {
     say "contents"
     for file in include/type24.h include/type24_octets.h include/type24_short.h include/type24_answers.h include/type24_reply.h \
-        include/type24_watchdog.h include/type24_release.h include/type24_words.h include/type24_version.h \
+        include/type24_watchdog.h include/type24_records.h include/type24_release.h include/type24_words.h include/type24_version.h \
         x86_64/lib/libtype24.a x86_64/lib/pkgconfig/type24.pc \
         lib/libtype24.a lib/pkgconfig/type24.pc doc/LINKING.md doc/PROCESSORS.md \
         doc/INTEGRATOR.md doc/FITTER.md doc/ENGINEER.md doc/RULES.md doc/rules/calls.md \
-        example/oven.c example/example.sheet example/short.sheet example/explain.c bin/t24-explain \
+        example/oven.c example/example.sheet example/short.sheet example/rules.sheet example/explain.c bin/t24-explain \
         bin/bench bin/replayer bin/t24-hex VERSION; do
         [ -f "$dist/$file" ] || fail "the kit lacks $file"
     done
@@ -121,7 +121,7 @@ test_that_tests_fail() {
     export SPOIL=0
     hand "$work/spoiled" stop >"$work/out" || fail "unspoiled, yet fails"
     number=0
-    while [ "$number" -lt 66 ]; do
+    while [ "$number" -lt 79 ]; do
         number=$((number + 1))
         SPOIL=$number
         must_fail "spoil $number" FAILED hand "$work/spoiled" stop
@@ -192,7 +192,7 @@ test_that_words_fail() {
 # The words of request 9: what is tolerated, and what is of release 1.
 test_that_tolerance_fails() {
     wrong_words "a tolerance read beside its record" type24_records.h \
-        's/sheet\[at\] == T24_RECORD_TOLERANCE/sheet[at] >= T24_RECORD_ID/'
+        's/sheet\[at\] == kind/sheet[at] >= T24_RECORD_ID/'
     wrong_words "a tolerance of a cut record" type24_records.h \
         's/if (len == 0 || len > sheet_len - at)/if (len == 0)/'
     wrong_words "one lost cycle too many told as tolerated" type24_watchdog.h \
@@ -210,7 +210,7 @@ test_that_tolerance_fails() {
     wrong_words "four lost cycles told as allowed" type24_range_words.h \
         's/value > T24_TOLERANCE_MAX/value > T24_TOLERANCE_MAX + 1/'
     wrong_words "a record behind the tolerance told as one behind an ID item" type24_sheet_words.h \
-        's/if (tolerance && kind >= T24_RECORD_REGION/if (0 \&\& kind >= T24_RECORD_REGION/'
+        's/} else if (tolerance \&\& early) {/} else if (0) {/'
     wrong_words "a count above the sheet's told as valid" type24_state_words.h \
         's/failures > tolerance)/failures > tolerance + 1)/'
     wrong_words "a count out of step told as valid" type24_state_words.h \
@@ -273,6 +273,7 @@ test_linking_page() {
     echo "accepted"
 }
 
+. "$kit/test/rules-steps.sh"
 . "$kit/test/oven-steps.sh"
 . "$kit/test/release-steps.sh"
 . "$kit/test/processor-steps.sh"
@@ -280,3 +281,4 @@ test_linking_page() {
 . "$kit/test/explain-refused-steps.sh"
 . "$kit/test/explain-tolerated-steps.sh"
 . "$kit/test/explain-short-steps.sh"
+. "$kit/test/explain-rules-steps.sh"

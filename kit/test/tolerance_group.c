@@ -43,7 +43,7 @@ void tolerance_range(void)
     add_end(&sheet);
     taken("link, tolerance, end", &sheet, 8);
     build_largest(&sheet, 64);
-    check(sheet.len == 1959, "octets of the largest sheet");
+    check(sheet.len == 1961, "octets of the largest sheet");
     taken("behind every other record", &sheet, 64 + ((uint64_t)65536 << 32));
 }
 
@@ -78,7 +78,7 @@ void tolerance_places(void)
     behind(T24_RECORD_ID, 13);
     behind(T24_RECORD_TOLERANCE, 13);
     behind(T24_RECORD_SHORT_LINK, 13);
-    behind(7, 12);
+    behind(8, 12);
     build_tolerant(&sheet, 16, 1);
     sheet.octets[sheet.len - 1] = T24_RECORD_TOLERANCE;
     add_octet(&sheet, 9);

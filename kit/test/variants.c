@@ -20,7 +20,7 @@ uint64_t give_sheet(unsigned l, int variant)
     build_p(&sheet, l);
     switch (variant) {
     case 1: sheet.octets[32] = T24_RECORD_ID; break;
-    case 2: sheet.octets[32] = 7; break;
+    case 2: sheet.octets[32] = 8; break;
     case 3: add_octet(&sheet, 0); break;
     case 4: sheet.octets[1] = 7; break;
     case 5: sheet.octets[15] = 0x03; break;

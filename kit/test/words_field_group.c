@@ -48,8 +48,10 @@ static const struct {
       "alarm 9 at octet 0, no field of this command" },
     { 0x03, 9, 5, "no field of this command",
       "alarm 9 at octet 5, no field of this command" },
-    { 0x00, 9, 4, "no field of this command",
+    { 0x00, 9, 4, "reserved octet",
       "alarm 9 at octet 4, no field of this command" },
+    { 0x00, 9, 2, "reserved bits",
+      "alarm 9 at octet 2, no field of this command" },
     { 0x0E, 10, 4, "no field of this command",
       "alarm 10, no right to part of the span" },
     { 0x1D, 3, 4, "no field of this command",
@@ -88,14 +90,15 @@ void words_fields(void)
          "alarm 9 at octet 4, no field of this command");
 }
 
-/* Whether a row above has this code, alarm 9 and this place. */
+/* Whether a row above has a check of this code, alarm 9 and this place. */
 static int has_row(unsigned code, uint32_t place)
 {
     size_t i;
 
     for (i = 0; i < ROWS; i++)
         if (rows[i].code == code && rows[i].alarm == 9 && rows[i].place == place
-            && strcmp(rows[i].field, T24_NO_FIELD) != 0)
+            && strcmp(rows[i].field, T24_NO_FIELD) != 0
+            && strncmp(rows[i].field, "reserved", 8) != 0)
             return 1;
     return 0;
 }
@@ -111,9 +114,11 @@ static void any(const uint8_t *command, unsigned alarm, uint32_t octet)
     check(field != NULL && field[0] != '\0', "a field for anything");
     check(told > 0 && told < sizeof text && strlen(text) == told,
           "words for anything");
-    if (alarm == 9)
+    if (alarm == 9 && strncmp(field, "reserved", 8) != 0)
         check((strcmp(field, T24_NO_FIELD) != 0) == has_row(code, octet),
               "a field where no check is, or none where one is");
+    else if (alarm == 9)
+        check(!has_row(code, octet), "a checked field told as reserved");
 }
 
 void words_fields_of_any(void)

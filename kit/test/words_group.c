@@ -41,7 +41,7 @@ static const struct {
     { "05 00 30 00 00", "14 at octet 0: short link record, L 0: only 16" },
     { SHORT_LINK, "11 at octet 4: no end record" },
     { SHORT_LINK "08", "12 at octet 4: kind 08 is unknown: a record begins with 00 "
-      "to 06" },
+      "to 07" },
     { SHORT_LINK ITEM REGION, "13 at octet 39: region 1 after an ID item: "
       "regions come first, then parameters, then ID items" },
     { SHORT_LINK "00", "valid, short type, L 16, 0 octets of memory, 0 regions, "
@@ -49,9 +49,9 @@ static const struct {
     { SHORT_LINK REGION PARAMETER ITEM "06 02 00", "valid, short type, L 16, 4 "
       "octets of memory, 1 region, 1 parameter, 1 ID item, tolerates 2 lost cycles "
       "in a row" },
-    { "FF", "12 at octet 0: kind FF is unknown: a record begins with 00 to 06" },
-    { LINK "07 01 00",
-      "12 at octet 4: kind 07 is unknown: a record begins with 00 to 06" },
+    { "FF", "12 at octet 0: kind FF is unknown: a record begins with 00 to 07" },
+    { LINK "08 01 00",
+      "12 at octet 4: kind 08 is unknown: a record begins with 00 to 07" },
     { "02 00", "13 at octet 0: the sheet begins with 02, not with a link record, 01 "
       "or 05" },
     { "00", "13 at octet 0: the sheet begins with 00, not with a link record, 01 or "
@@ -282,7 +282,7 @@ void words_cut(void)
     unsigned number;
     size_t len, at;
 
-    read_hex(&whole, LINK REGION PARAMETER ITEM "06 03 00");
+    read_hex(&whole, LINK REGION PARAMETER ITEM "06 03 07 02 00");
     for (len = 0; len <= whole.len; len++) {
         label("length", (long)len);
         sheet = place(SHEET, whole.octets, len, 1);

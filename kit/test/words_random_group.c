@@ -39,17 +39,19 @@ static void nearly_good(struct built *sheet)
         add_item(sheet, i, 1 + below(32));
     if (below(3) == 0)
         add_tolerance(sheet, below(5));
+    if (below(3) == 0)
+        add_rule_release(sheet, below(4));
     add_end(sheet);
 }
 
 static void random_sheet(struct built *sheet)
 {
-    static const uint8_t likely[] = { 0, 1, 2, 3, 4, 5, 6, 7, 57, 255 };
+    static const uint8_t likely[] = { 0, 1, 2, 3, 4, 5, 6, 7, 8, 57, 255 };
     uint32_t changes = below(3);
 
     nearly_good(sheet);
     for (; changes > 0; changes--)
-        sheet->octets[below((uint32_t)sheet->len)] = likely[below(10)];
+        sheet->octets[below((uint32_t)sheet->len)] = likely[below(11)];
     if (below(3) == 0)
         sheet->len = below((uint32_t)sheet->len + 1);
     if (below(16) == 0)

@@ -26,7 +26,7 @@ static void status_tolerated(void)
     status(7, 0xC0, "not executed, a lost cycle was tolerated; communication "
            "latch 12, a cycle was lost: MN did not follow, or SN was not RSN; "
            "a latch is set");
-    status(7, 0x09, "alarm 9, a field of the command is wrong; a lost cycle was "
+    status(7, 0x09, "alarm 9, an octet of the command is wrong; a lost cycle was "
            "tolerated; a latch is set");
     status(0x3A, 0x00, "not executed, a lost cycle was tolerated; bit 2 is 0, "
            "must be 1; bits 3 to 5 are not 0");
@@ -36,8 +36,8 @@ void words_status(void)
 {
     status(4, 0x00, "accepted");
     status(5, 0x00, "accepted; a latch is set");
-    status(5, 0x09, "alarm 9, a field of the command is wrong; a latch is set");
-    status(5, 0xC9, "alarm 9, a field of the command is wrong; communication "
+    status(5, 0x09, "alarm 9, an octet of the command is wrong; a latch is set");
+    status(5, 0xC9, "alarm 9, an octet of the command is wrong; communication "
            "latch 12, a cycle was lost: MN did not follow, or SN was not RSN; "
            "a latch is set");
     status(5, 0xC0, "alarm 0, none; communication latch 12, a cycle was lost: "

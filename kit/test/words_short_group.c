@@ -112,7 +112,7 @@ void words_short_status(void)
 {
     status(0, 4, 0, "accepted");
     status(0, 5, 0, "accepted; a latch is set");
-    status(9, 5, 0, "alarm 9, a field of the command is wrong; a latch is set");
+    status(9, 5, 0, "alarm 9, an octet of the command is wrong; a latch is set");
     status(8, 5, 0xC0, "alarm 8, unknown command code; communication latch 12, a "
            "cycle was lost: MN did not follow, or SN was not RSN; a latch is set");
     status(0, 5, 0xC0, "alarm 0, none; communication latch 12, a cycle was lost: "
@@ -143,7 +143,8 @@ static const struct {
     { 0x0E, 9, 5, "com_mod", "alarm 9 at octet 5, com_mod: not 00, 02 or 06" },
     { 0x0E, 9, 6, "com_time",
       "alarm 9 at octet 6, com_time: 0, or 1 with dual transfer" },
-    { 0x0E, 9, 7, T24_NO_FIELD, "alarm 9 at octet 7, no field of this command" },
+    { 0x0E, 9, 7, "reserved octet",
+      "alarm 9 at octet 7, no field of this command" },
     { 0x05, 9, 0, T24_NO_FIELD, "alarm 9 at octet 0, no field of this command" },
     { 0x1D, 9, 6, T24_NO_FIELD, "alarm 9 at octet 6, no field of this command" },
     { 0x1E, 10, 6, T24_NO_FIELD, "alarm 10, no right to part of the span" },

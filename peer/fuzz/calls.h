@@ -19,6 +19,7 @@ static void ask_sheet(void)
     check("lengths", peer_lengths(SHEET(0)), t24_lengths(SHEET(1)));
     mark_call("sheet", peer);
     mark_tolerance(SHEET(0), peer);
+    mark_release(SHEET(0), peer);
     mark_link(SHEET(0), peer);
 }
 
@@ -99,11 +100,14 @@ static void exchange(const uint8_t *octets, size_t length, size_t reply_length)
                   rig.state[0].octets[1]);
     mark_count(wire, octets[wire->wdt], rig.reply[0].octets, before,
                rig.state[0].octets);
-    mark_place(wire, octets[0], rig.reply[0].octets[wire->alarm] & 15, peer >> 32);
+    mark_place(wire, octets, rig.reply[0].octets[wire->alarm] & 15, peer >> 32);
     if (!is_lost(rig.reply[0].octets, before, rig.state[0].octets[1])
-        && !(rig.reply[0].octets[2] & 2)) /* else it was not looked at */
+        && !(rig.reply[0].octets[2] & 2)) { /* else it was not looked at */
         mark_room(rig.sheet[0].octets, octets,
                   rig.reply[0].octets[wire->alarm] & 15);
+        if ((rig.reply[0].octets[wire->alarm] & 15) == 0)
+            mark_accepted(wire, rig.sheet[0].octets, octets);
+    }
     keep_record(octets, rig.reply[0].octets, length);
 }
 

@@ -2,6 +2,7 @@
 #ifndef COMMANDS_H
 #define COMMANDS_H
 
+#include "reserved.h"
 #include "sheets.h"
 
 /* A count that the sheet allows, seldom one that it need not allow. */
@@ -145,6 +146,23 @@ static uint8_t aim_wdt(uint8_t wdt, const uint8_t *state, uint8_t control)
     return wdt;
 }
 
+/* Under release 2 bit 4 makes what is reserved zero, and with bit 5 one octet
+ * then holds another value. */
+static void hush(struct input *in, const struct parts *parts, uint8_t control,
+                 uint8_t *command)
+{
+    const struct wire *wire = wire_of(parts->sheet);
+
+    if (parts->release != 2 || !(control & 0x10))
+        return;
+    for (size_t at = 0; at < 64; at++)
+        command[at] &= named_bits(wire, command, at);
+    if (control & 0x20) {
+        const size_t at = take(in) % 64;
+        command[at] = take(in);
+    }
+}
+
 /* A command of 256 octets, of which L are lent. */
 static void make_command(struct input *in, const struct parts *parts,
                          const uint8_t *state, size_t state_length,
@@ -160,6 +178,7 @@ static void make_command(struct input *in, const struct parts *parts,
         command[0] = CODES[command[0] % 11];
     if (control & 2)
         aim(in, parts, command);
+    hush(in, parts, control, command);
     if (state_length == STATE_LENGTH)
         command[wire->wdt] = aim_wdt(command[wire->wdt], state, control);
 }

@@ -3,6 +3,7 @@
 #ifndef MARKS_H
 #define MARKS_H
 
+#include "reserved.h"
 #include "wire.h"
 
 #include <stdint.h>
@@ -40,6 +41,26 @@ static void mark_tolerance(const uint8_t *sheet, size_t length, uint64_t answer)
         fprintf(stderr, "mark tolerance_twice\n");
     else
         fprintf(stderr, "mark tolerance_%u\n", number);
+}
+
+/* A good sheet by its release, or the faults of a release: cut, out of range, out
+ * of place or a second one, and a record behind it. */
+static void mark_release(const uint8_t *sheet, size_t length, uint64_t answer)
+{
+    const unsigned number = answer & 0xFF;
+    const size_t place = (size_t)(answer >> 32);
+
+    if (!telling())
+        return;
+    if (number == 0)
+        fprintf(stderr, "mark sheet_of_release_%u\n", release_of(sheet));
+    if (number == 0 || place >= length)
+        return;
+    if (number == 13 && place >= 2 && sheet[place - 2] == 7
+        && (sheet[place] == 6 || sheet[place] == 7))
+        fprintf(stderr, "mark release_before_%02X\n", sheet[place]);
+    else if (sheet[place] == 7)
+        fprintf(stderr, "mark release_%u\n", number);
 }
 
 /* What became of a link record of the short type, or of one beside it. */
@@ -160,9 +181,7 @@ static void mark_exchange(const struct wire *wire, const uint8_t *command,
  * an item's code. */
 static const uint8_t *record_of(const uint8_t *sheet, uint8_t kind, unsigned key)
 {
-    static const uint8_t lengths[7] = {1, 4, 10, 8, 35, 4, 2};
-
-    for (; sheet[0] != 0; sheet += lengths[sheet[0]])
+    for (; sheet[0] != 0; sheet += RECORD_LENGTHS[sheet[0]])
         if (sheet[0] == kind && sheet[1] == (key & 0xFF)
             && (kind == 4 || sheet[2] == key >> 8))
             return sheet;
@@ -190,17 +209,36 @@ static void mark_room(const uint8_t *sheet, const uint8_t *command, unsigned ala
         fprintf(stderr, "mark short_code_%02X_size_%u\n", code, size);
 }
 
-/* Where a refused command was told wrong: alarm 9 by octet, and alarm 10 by
- * whether the first octet lacks the right or a later one. */
-static void mark_place(const struct wire *wire, uint8_t code, unsigned alarm,
-                       uint64_t place)
+/* Where a refused command was told wrong: alarm 9 by the field's octet or, for a
+ * reserved one, by whether it stands before, among or behind what is named; and
+ * alarm 10 by whether the first octet lacks the right or a later one. */
+static void mark_place(const struct wire *wire, const uint8_t *command,
+                       unsigned alarm, uint64_t place)
 {
-    if (telling() && alarm == 9)
-        fprintf(stderr, "mark %scode_%02X_place_%u\n", wire->name, code,
+    const int reserved = named_bits(wire, command, (size_t)place) != 0xFF;
+
+    if (telling() && alarm == 9 && reserved)
+        fprintf(stderr, "mark %sreserved_%s\n", wire->name,
+                place < 4                            ? "head"
+                : place < named_end(wire, command)   ? "among"
+                                                     : "behind");
+    else if (telling() && alarm == 9)
+        fprintf(stderr, "mark %scode_%02X_place_%u\n", wire->name, command[0],
                 (unsigned)place);
     if (telling() && alarm == 10)
-        fprintf(stderr, "mark %scode_%02X_lacking_%s\n", wire->name, code,
+        fprintf(stderr, "mark %scode_%02X_lacking_%s\n", wire->name, command[0],
                 place == 0 ? "first" : "later");
+}
+
+/* An accepted command under release 2, and whether it wrote data. */
+static void mark_accepted(const struct wire *wire, const uint8_t *sheet,
+                          const uint8_t *command)
+{
+    const int writes = command[0] == 0x02 || command[0] == 0x1E;
+
+    if (telling() && release_of(sheet) == 2)
+        fprintf(stderr, "mark %srelease_2_%s\n", wire->name,
+                writes ? "written" : "accepted");
 }
 
 #endif

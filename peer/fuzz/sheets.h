@@ -34,7 +34,7 @@ struct parts {
     size_t parameters;
     uint8_t codes[40];
     size_t items;
-    uint8_t tolerance;
+    uint8_t tolerance, release;
 };
 
 static const uint8_t LENGTHS[5] = {8, 16, 32, 48, 64};
@@ -103,6 +103,12 @@ static void put_tolerance(struct parts *parts, uint8_t failures)
     parts->tolerance = failures & 3;
     put(parts, 6, 1);
     put(parts, failures, 1);
+}
+
+static void put_release(struct parts *parts, uint8_t release)
+{
+    parts->release = release;
+    put(parts, 7u | (unsigned)release << 8, 2);
 }
 
 /* Sheets that short inputs can use: so many records of each kind, regions one
@@ -227,6 +233,19 @@ static void make_tolerance(struct input *in, struct parts *parts)
         put_tolerance(parts, control & 7);
 }
 
+/* None, either good one, one out of range, two, or one before a tolerance. */
+static void make_release(struct input *in, struct parts *parts)
+{
+    const uint8_t control = take(in);
+
+    if (control >= 0x40)
+        put_release(parts, control < 0xD0 ? 1 + (control >= 0x60) : control & 7);
+    if (control >= 0xF0 && control & 8)
+        put_tolerance(parts, control & 3);
+    else if (control >= 0xE0)
+        put_release(parts, 1 + (control & 1));
+}
+
 static void damage(struct input *in, struct parts *parts)
 {
     uint8_t control = take(in);
@@ -262,11 +281,15 @@ static void make_sheet(struct input *in, struct parts *parts)
         make_plan(parts, &PLANS[control % PLAN_COUNT]);
         if (control & 0x40)
             put_tolerance(parts, control >> 3 & 3);
+        /* Without a tolerance bit 3 tells the release. */
+        if (control & 0x20)
+            put_release(parts, (control & 0x48) == 8 ? 1 : 2);
     } else {
         make_regions(in, parts);
         make_parameters(in, parts);
         make_items(in, parts);
         make_tolerance(in, parts);
+        make_release(in, parts);
     }
     put(parts, 0, 1);
     damage(in, parts);

@@ -99,6 +99,10 @@ test_hex_from() {
 00 # 32: end" "" "$hex" from sheet.bin --sheet
     expect "t24-hex --sheet, a tolerance record" 0 "0601 # 32: tolerance
 00 # 34: end" "" sh -c '"$1" from tolerant.bin --sheet | tail -n 2' sh "$hex"
+    expect "t24-hex --sheet, a rule release record" 0 "0702 # 32: rule release
+00 # 34: end" "" sh -c '"$1" from ruled.bin --sheet | tail -n 2' sh "$hex"
+    expect "t24-hex --sheet, a rule release record that is cut" 0 "07 # 32: rule release, cut, 1 of 2 octets" \
+        "" sh -c 'head -c 33 ruled.bin >cut-ruled.bin && "$1" from cut-ruled.bin --sheet | tail -n 1' sh "$hex"
     expect "t24-hex --sheet, a short link record" 0 "05103000 # 0: short link
 02001000000400000003 # 4: region" "" sh -c '"$1" from short-sheet.bin --sheet | head -n 2' sh "$hex"
     expect "t24-hex --state" 0 "12 # kind

@@ -1,7 +1,7 @@
 -- The owner's page, proved.
 use Rattle.law.proofs.ByTables.{by-tables, one-reading}
 use Rattle.law.proofs.Promises.{promises}
-use Rattle.demands.specs.Demands.{FirstDemand, SecondDemand, ThirdDemand, IdlePrograms, OnTheBench, Request1, Request3, Request5, Request6, Request7, Request8, Request9}
+use Rattle.demands.specs.Demands.{FirstDemand, SecondDemand, ThirdDemand, IdlePrograms, OnTheBench, Request1, Request3, Request5, Request6, Request7, Request8, Request9, Request11, Request13}
 use Rattle.demands.proofs.Agreed.{traces-have-replies, agrees-exactly}
 use Rattle.demands.proofs.Alone.{refuses-all-keeps-secrets, single-reply-keeps-secrets, stores-nothing-keeps-secrets, echoes-afterwards-keeps-secrets, invents-rsn-keeps-secrets, invents-rsn-agrees-where-reached}
 use Rattle.demands.proofs.Bench.{sheet-p-is-valid, bench-cases}
@@ -20,6 +20,10 @@ use Rattle.demands.proofs.Places.{first-failed-is-told, unknown-code-is
 use Rattle.demands.proofs.Playing.{replay-plays, records-are-answered, secrets-in-whole-replay, refused-replay-writes-nothing}
 use Rattle.demands.proofs.Reached.{secrets-in-replay, only-agreeing-reach}
 use Rattle.demands.proofs.Runs.{refused-changes-nothing, states-stay-valid, memory-keeps-its-length, demand-3}
+use Rattle.demands.proofs.Release.{same-where-zero, accepted-if-zero}
+use Rattle.demands.proofs.GrantedRuns.{more-rights-change-nothing}
+use Rattle.demands.proofs.GrantedTraces.{trace-agrees-too, not-without-it}
+use Rattle.demands.proofs.Beside.{first-is-told, named-octets}
 use Rattle.demands.proofs.SameFields.{same-fields-same-fate}
 use Rattle.demands.proofs.Short.{short-replies, no-memory-commands, profile-is-not-checked}
 use Rattle.demands.proofs.ShortBench.{short-cases, short-by-law}
@@ -119,4 +123,15 @@ request-9 = record {
   one-is-tolerated = one-is-tolerated;
   passing-counts-none = passing-counts-none;
   an-old-record-is-turned = old-records-turn;
+}
+
+pub request-11 : Request11
+request-11 = record { more-rights-change-nothing = more-rights-change-nothing; its-traces-agree-too = trace-agrees-too; not-without-it = not-without-it }
+
+pub request-13 : Request13
+request-13 = record {
+  the-same-where-they-are-zero = same-where-zero;
+  accepted-exactly-if-zero = accepted-if-zero;
+  the-first-such-octet-is-told = first-is-told;
+  the-named-octets = named-octets;
 }

@@ -10,6 +10,8 @@ use lib.ListN.{length}
 use lib.Seq.{ext-getD}
 use Rattle.octets.specs.Pick.{pick}
 use Rattle.frame.specs.Fields.{commandOf}
+use Rattle.frame.specs.Unnamed.{strayOf}
+use Rattle.frame.proofs.Strays.{stray-free}
 use Rattle.frame.specs.Places.{Sized}
 use Rattle.frame.proofs.Alike.{command-alike, memory-alike, reply-long, reply-alike, bits-alike}
 use Rattle.link.specs.Stored.{stateOf}
@@ -17,6 +19,7 @@ use Rattle.link.specs.declared.state.LinkState.{LinkState}
 use Rattle.link.specs.declared.stored.Stored.{Stored}
 use Rattle.link.specs.declared.stored.Stored.the-variants.{State, Invalid}
 use Rattle.machine.specs.Outcomes.{outcomeOf}
+use Rattle.machine.specs.declared.words.Command.{Command}
 use Rattle.machine.specs.declared.words.Outcome.{Outcome}
 use Rattle.machine.proofs.Alike.{outcome-alike}
 use Rattle.sheet.specs.Walk.{verdictOf}
@@ -25,10 +28,10 @@ use Rattle.sheet.specs.declared.walk.Verdict.{Verdict}
 use Rattle.sheet.specs.declared.walk.Verdict.the-variants.{Valid, Faulty}
 use Rattle.sheet.proofs.Valid.{valid-sheet, length-least}
 use Rattle.slave.specs.Answers.{told, onSheet, onState}
-use Rattle.slave.specs.Exchange.{Left, left, leftOf, refusalOf, exchanged, exchangeOf}
+use Rattle.slave.specs.Exchange.{outcomeFor, Left, left, leftOf, refusalOf, exchanged, exchangeOf}
 use Rattle.slave.proofs.Fits.{valid-sized}
 use Rattle.slave.proofs.Order.{no-refusal}
-use Rattle.demands.specs.Identity.{identityIn, IdentityComesBack, OnlyControlDiffers, OnlyIdentityDiffers, ControlIsIgnored}
+use Rattle.demands.specs.Identity.{NotRelease2, identityIn, IdentityComesBack, OnlyControlDiffers, OnlyIdentityDiffers, ControlIsIgnored}
 use Rattle.demands.proofs.Done.{answered-done, seen-identity}
 use Rattle.demands.proofs.Lengths.{fits}
 
@@ -71,16 +74,19 @@ shapes (a₀ ∷ a₁ ∷ x₂ ∷ []) d l o = absurd (let w : ⊥ = omega arith
 module _ (sheet state memory reply : List ℕ) where
   -- an exchange that nothing refuses
   exchanged-alike : (a₀ a₁ x₂ x₃ y₂ y₃ : ℕ) (t : List ℕ) (lay : Layout) (st : LinkState) → verdictOf sheet ≡ Valid lay
-      → refusalOf lay st (length memory) (length (a₀ ∷ a₁ ∷ x₂ ∷ x₃ ∷ t)) (length reply) ≡ 0
+      → (lay .release ≡ 2 → ⊥) → refusalOf lay st (length memory) (length (a₀ ∷ a₁ ∷ x₂ ∷ x₃ ∷ t)) (length reply) ≡ 0
       → OnlyIdentityDiffers (exchanged sheet lay st memory (a₀ ∷ a₁ ∷ x₂ ∷ x₃ ∷ t)) (exchanged sheet lay st memory (a₀ ∷ a₁ ∷ y₂ ∷ y₃ ∷ t))
   unfolding exchanged
-  exchanged-alike a₀ a₁ x₂ x₃ y₂ y₃ t lay st v free =
+  exchanged-alike a₀ a₁ x₂ x₃ y₂ y₃ t lay st v first free =
       let c : List ℕ = a₀ ∷ a₁ ∷ x₂ ∷ x₃ ∷ t in
       let d : List ℕ = a₀ ∷ a₁ ∷ y₂ ∷ y₃ ∷ t in
       let form = lay .form in
-      let o = outcomeOf sheet lay st (commandOf form c) in
-      let same : o ≡ outcomeOf sheet lay st (commandOf form d) =
-      outcome-alike sheet lay st (commandOf form c) _ ∙ sym (ap (outcomeOf sheet lay st) (command-alike form a₀ a₁ x₂ x₃ y₂ y₃ t)) in
+      let o = outcomeFor sheet lay st c in
+      let u = strayOf form (lay .release) d in
+      let none : strayOf form (lay .release) c ≡ u = stray-free form (lay .release) c first ∙ sym (stray-free form (lay .release) d first) in
+      let same : o ≡ outcomeFor sheet lay st d =
+      ap (outcomeOf sheet lay st (commandOf form c)) none
+      ∙ outcome-alike sheet lay st (commandOf form c) _ u ∙ sym (ap (λ (x : Command). outcomeOf sheet lay st x u) (command-alike form a₀ a₁ x₂ x₃ y₂ y₃ t)) in
       let r = no-refusal lay st (length memory) (length c) (length reply) free in
       let long = subst (Sized form) (sym (r .1)) (valid-sized sheet lay (valid-sheet sheet lay v)) in
       let f = fits sheet memory c reply lay st v free in
@@ -94,7 +100,7 @@ module _ (sheet state memory reply : List ℕ) where
         other-bits = bits-alike form a₀ a₁ x₂ x₃ y₂ y₃ t sheet memory o long f;
       })
 
-  module _ (c d : List ℕ) (o : OnlyControlDiffers c d) where
+  module _ (c d : List ℕ) (r1 : NotRelease2 sheet) (o : OnlyControlDiffers c d) where
     answered-alike : (lay : Layout) (st : LinkState) → verdictOf sheet ≡ Valid lay → refusalOf lay st (length memory) (length c) (length reply) ≡ 0
         → OnlyIdentityDiffers (exchanged sheet lay st memory c) (exchanged sheet lay st memory d)
     answered-alike lay st v free =
@@ -103,7 +109,7 @@ module _ (sheet state memory reply : List ℕ) where
         let k = shapes c d (omega (arith, r .1)) o in
         subst (λ (x : List ℕ). OnlyIdentityDiffers (exchanged sheet lay st memory c) (exchanged sheet lay st memory x)) (sym (k .second))
         (subst (λ (x : List ℕ). OnlyIdentityDiffers (exchanged sheet lay st memory x) (exchanged sheet lay st memory (k .a₀ ∷ k .a₁ ∷ k .y₂ ∷ k .y₃ ∷ k .t))) (sym (k .first))
-        (exchanged-alike (k .a₀) (k .a₁) (k .x₂) (k .x₃) (k .y₂) (k .y₃) (k .t) lay st v
+        (exchanged-alike (k .a₀) (k .a₁) (k .x₂) (k .x₃) (k .y₂) (k .y₃) (k .t) lay st v (r1 lay v)
         (subst (λ (x : List ℕ). refusalOf lay st (length memory) (length x) (length reply) ≡ 0) (k .first) free)))
 
     picked : (b : Bool) (x y z : Left) → (b ≡ false → OnlyIdentityDiffers y z) → OnlyIdentityDiffers (pick b x y) (pick b x z)
@@ -136,4 +142,4 @@ module _ (sheet state memory reply : List ℕ) where
 
 pub control-is-ignored : ControlIsIgnored
 unfolding exchangeOf
-control-is-ignored sheet state memory c d reply o = with-sheet sheet state memory reply c d o (verdictOf sheet) refl
+control-is-ignored sheet state memory c d reply first o = with-sheet sheet state memory reply c d first o (verdictOf sheet) refl

@@ -89,8 +89,8 @@ module _ (h : Sheet) (s m c : List ℕ) where
   told =
       let p = parameter h s m c in
       by-rows (table h s m c) (in-both h s m c (Every _)
-      (λ _. done _ _ _, (λ e. behind _ _ (behind _ _ (behind _ _ (rights readable 0x01 (p .address) (p .size) _ _ _ (λ f. inl (e, f))))), (λ e. behind _ _ (behind _ _ (behind _ _ (rights (writable (link s)) 0x02 (p .address) (p .size) _ _ _ (λ f. inr (inl (e, f)))))), (λ _. behind _ _ (behind _ _ (behind _ _ (behind _ _ (done _ _ _)))), (λ _. behind _ _ (behind _ _ (done _ _ _)), (λ _. behind _ _ (done _ _ _), (λ _. done _ _ _, (λ _. behind _ _ (behind _ _ (behind _ _ (behind _ _ (done _ _ _)))), (λ _. done _ _ _, (λ e. behind _ _ (behind _ _ (behind _ _ (behind _ _ (rights readable 0x1D (address h s m c) (n h s m c) _ _ _ (λ f. inr (inr (inl (e, f)))))))), (λ e. behind _ _ (behind _ _ (behind _ _ (behind _ _ (rights (writable (link s)) 0x1E (address h s m c) (n h s m c) _ _ _ (λ f. inr (inr (inr (inl (e, f))))))))), tt)))))))))))
-      (λ _. done _ _ _, (λ e. behind _ _ (behind _ _ (behind _ _ (rights readable 0x01 (p .address) (p .size) _ _ _ (λ f. inl (e, f))))), (λ e. behind _ _ (behind _ _ (behind _ _ (rights (writable (link s)) 0x02 (p .address) (p .size) _ _ _ (λ f. inr (inl (e, f)))))), (λ _. behind _ _ (behind _ _ (behind _ _ (behind _ _ (done _ _ _)))), (λ _. behind _ _ (done _ _ _), (λ _. behind _ _ (done _ _ _), (λ _. done _ _ _, (λ _. behind _ _ (behind _ _ (behind _ _ (done _ _ _))), (λ _. done _ _ _, tt))))))))))
+      (λ _. behind _ _ (done _ _ _), (λ e. behind _ _ (behind _ _ (behind _ _ (behind _ _ (rights readable 0x01 (p .address) (p .size) _ _ _ (λ f. inl (e, f)))))), (λ e. behind _ _ (behind _ _ (behind _ _ (behind _ _ (rights (writable (link s)) 0x02 (p .address) (p .size) _ _ _ (λ f. inr (inl (e, f))))))), (λ _. behind _ _ (behind _ _ (behind _ _ (behind _ _ (behind _ _ (done _ _ _))))), (λ _. behind _ _ (behind _ _ (behind _ _ (done _ _ _))), (λ _. behind _ _ (behind _ _ (done _ _ _)), (λ _. behind _ _ (done _ _ _), (λ _. behind _ _ (behind _ _ (behind _ _ (behind _ _ (behind _ _ (done _ _ _))))), (λ _. behind _ _ (done _ _ _), (λ e. behind _ _ (behind _ _ (behind _ _ (behind _ _ (behind _ _ (rights readable 0x1D (address h s m c) (n h s m c) _ _ _ (λ f. inr (inr (inl (e, f))))))))), (λ e. behind _ _ (behind _ _ (behind _ _ (behind _ _ (behind _ _ (rights (writable (link s)) 0x1E (address h s m c) (n h s m c) _ _ _ (λ f. inr (inr (inr (inl (e, f)))))))))), tt)))))))))))
+      (λ _. behind _ _ (done _ _ _), (λ e. behind _ _ (behind _ _ (behind _ _ (behind _ _ (rights readable 0x01 (p .address) (p .size) _ _ _ (λ f. inl (e, f)))))), (λ e. behind _ _ (behind _ _ (behind _ _ (behind _ _ (rights (writable (link s)) 0x02 (p .address) (p .size) _ _ _ (λ f. inr (inl (e, f))))))), (λ _. behind _ _ (behind _ _ (behind _ _ (behind _ _ (behind _ _ (done _ _ _))))), (λ _. behind _ _ (behind _ _ (done _ _ _)), (λ _. behind _ _ (behind _ _ (done _ _ _)), (λ _. behind _ _ (done _ _ _), (λ _. behind _ _ (behind _ _ (behind _ _ (behind _ _ (done _ _ _)))), (λ _. behind _ _ (done _ _ _), tt))))))))))
 
   fate-told : Told (fateOf h s m c)
   unfolding fateOf

@@ -39,6 +39,8 @@ p-good = record {
   few-items = omega arith;
   tolerances = tt;
   once = omega arith;
+  releases = tt;
+  picked-once = omega arith;
 }
 
 pub bench-by-law : BenchByLaw

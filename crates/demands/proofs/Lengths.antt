@@ -8,17 +8,17 @@ use Rattle.octets.proofs.Pick.{pick-cases}
 use Rattle.frame.specs.Body.{Fitting}
 use Rattle.frame.specs.Fields.{commandOf}
 use Rattle.frame.specs.Places.{Sized}
+use Rattle.frame.specs.Unnamed.{strayOf}
 use Rattle.frame.proofs.Kept.{memory-length}
 use Rattle.frame.proofs.Replies.{whole}
 use Rattle.link.specs.Stored.{stateOf}
 use Rattle.link.specs.declared.state.LinkState.{LinkState}
-use Rattle.machine.specs.Outcomes.{outcomeOf}
 use Rattle.machine.specs.declared.words.Outcome.{Outcome}
 use Rattle.sheet.specs.Walk.{verdictOf}
 use Rattle.sheet.specs.declared.walk.Layout.{Layout}
 use Rattle.sheet.specs.declared.walk.Verdict.the-variants.{Valid}
 use Rattle.sheet.proofs.Valid.{valid-sheet}
-use Rattle.slave.specs.Exchange.{Left, refusalOf, exchanged, exchangeOf}
+use Rattle.slave.specs.Exchange.{Left, outcomeFor, refusalOf, exchanged, exchangeOf}
 use Rattle.slave.proofs.Fits.{valid-sized, outcome-fits}
 use Rattle.slave.proofs.Order.{no-refusal}
 use Rattle.demands.proofs.Refusals.{by-sheet, by-state}
@@ -27,12 +27,12 @@ use Rattle.demands.proofs.Refusals.{by-sheet, by-state}
 module _ (sheet memory command reply : List ℕ) (lay : Layout) (st : LinkState) (v : verdictOf sheet ≡ Valid lay)
     (free : refusalOf lay st (length memory) (length command) (length reply) ≡ 0) where
   abbrev o : Outcome
-  o = outcomeOf sheet lay st (commandOf (lay .form) command)
+  o = outcomeFor sheet lay st command
 
   pub fits : Fitting (lay .form) (o .effect) (length command) (length memory) (length sheet)
   fits =
       let r = no-refusal lay st (length memory) (length command) (length reply) free in
-      subst₂ (λ (c m : ℕ). Fitting (lay .form) (o .effect) c m (length sheet)) (sym (r .1)) (sym (r .0)) (outcome-fits sheet lay (valid-sheet sheet lay v) st (commandOf (lay .form) command))
+      subst₂ (λ (c m : ℕ). Fitting (lay .form) (o .effect) c m (length sheet)) (sym (r .1)) (sym (r .0)) (outcome-fits sheet lay (valid-sheet sheet lay v) st (commandOf (lay .form) command) (strayOf (lay .form) (lay .release) command))
 
   exchanged-length : length (exchanged sheet lay st memory command .memory) ≡ length memory
   unfolding exchanged

@@ -23,10 +23,17 @@ pub mod Tolerated
 pub mod Short
 pub mod SameFields
 pub mod Unnamed
+pub mod Stray
+pub mod Release
+pub mod Beside
 pub mod Turned
 pub mod Shut
 pub mod Replays
 pub mod Agreed
+pub mod Cells
+pub mod Granted
+pub mod GrantedRuns
+pub mod GrantedTraces
 pub mod Folded
 pub mod Cut
 pub mod Unique

@@ -61,4 +61,4 @@ left-out a b d e x y₁ y₂ y₃ y₄ holds =
 
 pub mapped-is-not-asked : MappedIsNotAsked
 unfolding checked
-mapped-is-not-asked h w s m c most right row = left-out _ _ _ _ _ _ _ _ _ (λ t. parameters-are-mapped h w (number h s m c) t)
+mapped-is-not-asked h w s m c most behind row = left-out _ _ _ _ _ _ _ _ _ (λ t. parameters-are-mapped h w (number h s m c) t)

@@ -110,8 +110,8 @@ module _ (h : Sheet) (s m c : List ℕ) where
   rows-write : WritesIn (h .pdu) (table h s m c)
   rows-write =
       by-type h s m c WritesIn
-      (λ good. (λ a b. inl refl, (λ a b. inl refl, (λ a b. inr (record { alarm = refl; address = parameter h s m c .address; size = parameter h s m c .size; from = _; stores = refl; right = b .1 .1 .1 .0; fits = fits-behind _ (parameter h s m c .size) (h .l) _ (b .1 .0) (b .1 .1 .0) (least-length (h .l) good) }), (λ a b. inl refl, (λ a b. inl refl, (λ a b. inl refl, (λ a b. inl refl, (λ a b. inl refl, (λ a b. inl refl, (λ a b. inl refl, (λ a b. inr (record { alarm = refl; address = address h s m c; size = n h s m c; from = _; stores = refl; right = b .1 .1 .1 .1 .0; fits = fits-least (n h s m c) (h .l) _ (b .1 .0) (b .1 .1 .0) }), tt))))))))))))
-      (λ good. (λ a b. inl refl, (λ a b. inl refl, (λ a b. inr (record { alarm = refl; address = parameter h s m c .address; size = parameter h s m c .size; from = _; stores = refl; right = b .1 .1 .1 .0; fits = fits-eight _ (parameter h s m c .size) (h .l) (b .1 .0) (b .1 .1 .0) good }), (λ a b. inl refl, (λ a b. inl refl, (λ a b. inl refl, (λ a b. inl refl, (λ a b. inl refl, (λ a b. inl refl, tt))))))))))
+      (λ good. (λ a b. inl refl, (λ a b. inl refl, (λ a b. inr (record { alarm = refl; address = parameter h s m c .address; size = parameter h s m c .size; from = _; stores = refl; right = b .1 .1 .1 .1 .0; fits = fits-behind _ (parameter h s m c .size) (h .l) _ (b .1 .0) (b .1 .1 .0) (least-length (h .l) good) }), (λ a b. inl refl, (λ a b. inl refl, (λ a b. inl refl, (λ a b. inl refl, (λ a b. inl refl, (λ a b. inl refl, (λ a b. inl refl, (λ a b. inr (record { alarm = refl; address = address h s m c; size = n h s m c; from = _; stores = refl; right = b .1 .1 .1 .1 .1 .0; fits = fits-least (n h s m c) (h .l) _ (b .1 .0) (b .1 .1 .0) }), tt))))))))))))
+      (λ good. (λ a b. inl refl, (λ a b. inl refl, (λ a b. inr (record { alarm = refl; address = parameter h s m c .address; size = parameter h s m c .size; from = _; stores = refl; right = b .1 .1 .1 .1 .0; fits = fits-eight _ (parameter h s m c .size) (h .l) (b .1 .0) (b .1 .1 .0) good }), (λ a b. inl refl, (λ a b. inl refl, (λ a b. inl refl, (λ a b. inl refl, (λ a b. inl refl, (λ a b. inl refl, tt))))))))))
       (h .pdu)
 
   pub fate-writes : GoodLength (h .pdu) (h .l) → (fateOf h s m c .stores ≡ []) ⊎ Writing (fateOf h s m c)

@@ -12,14 +12,14 @@ use Rattle.octets.proofs.Cases.{decided}
 use Rattle.law.specs.Words.{when, Every, oneOf}
 use Rattle.law.specs.Sheet.{Sheet, sheetOctets, allows}
 use Rattle.law.specs.State.{link, failures}
-use Rattle.law.specs.Table.{Check, check, Row, table}
+use Rattle.law.specs.Table.{Check, check, Row, strayIn, table}
 use Rattle.law.specs.Exchange.{Fate, code, missed, refused, checked, judged, fateOf, failing, passing}
 use Rattle.law.proofs.Laid.{when-yes, when-no}
 use Rattle.slave.specs.Exchange.{Left, exchangeOf}
 use Rattle.demands.specs.Accepted.{accepted}
 use Rattle.demands.specs.Answered.{Answered, alarmIn}
 use Rattle.demands.specs.Hidden.{Seen, seen}
-use Rattle.demands.specs.Places.{dataPlaces, placesOf, placeIn, Holds, Decided, allChecks, FirstFailedIsTold, UnknownCodeIsTold, OctetsOfTheFields, NoFieldWasWrong, PlacesAreTheSame}
+use Rattle.demands.specs.Places.{dataPlaces, placesOf, eachWith, placeIn, Holds, Decided, allChecks, FirstFailedIsTold, UnknownCodeIsTold, OctetsOfTheFields, NoFieldWasWrong, PlacesAreTheSame}
 use Rattle.demands.specs.Sequences.{runOf}
 use Rattle.demands.proofs.Done.{answered-done, seen-alarm}
 use Rattle.demands.proofs.Exact.{acceptance-is-exact}
@@ -30,7 +30,7 @@ use Rattle.demands.proofs.Runs.{demand-3}
 pub octets-of-the-fields : OctetsOfTheFields
 unfolding when
 octets-of-the-fields h s m c =
-    by-type h s m c (λ pdu rs. map (λ (r : Row). r .code ∷ dataPlaces (r .checks)) rs ≡ placesOf pdu) refl refl (h .pdu)
+    by-type h s m c (λ pdu rs. map (λ (r : Row). r .code ∷ dataPlaces (r .checks)) rs ≡ eachWith (placesOf pdu) (map (λ (r : Row). strayIn h s m c pdu (r .named)) rs)) refl refl (h .pdu)
 
 pub never : {A : Type 0} → _≡_ {A = Bool} true false → A
 never e = absurd (let z : _≡_ {A = ℕ} 0 1 = cc in let v : ⊥ = omega arith in v)

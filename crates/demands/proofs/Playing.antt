@@ -9,16 +9,14 @@ use lib.ListN.{length, drop, length-drop}
 use Rattle.octets.specs.Parts.{part}
 use Rattle.octets.specs.Pick.{pick}
 use Rattle.octets.proofs.Pick.{pick-ne, pick-same, pick-both}
-use Rattle.frame.specs.Fields.{commandOf}
 use Rattle.link.specs.Stored.{stateOf}
 use Rattle.link.specs.declared.state.LinkState.{LinkState}
 use Rattle.link.specs.declared.stored.Stored.{Stored}
 use Rattle.link.specs.declared.stored.Stored.the-variants.{State, Invalid}
-use Rattle.machine.specs.Outcomes.{outcomeOf}
 use Rattle.sheet.specs.Walk.{verdictOf}
 use Rattle.sheet.specs.declared.walk.Layout.{Layout}
 use Rattle.slave.specs.Answers.{onState}
-use Rattle.slave.specs.Exchange.{Left, exchanged, exchangeOf, Running}
+use Rattle.slave.specs.Exchange.{Left, outcomeFor, exchanged, exchangeOf, Running}
 use Rattle.slave.proofs.Again.{runs-on}
 use Rattle.slave.proofs.Order.{on-valid, on-state}
 use Rattle.replay.specs.Replay.{Replayed, replayed, replayOf}
@@ -57,7 +55,7 @@ module _ (sheet state memory command reply : List ℕ) (lay : Layout) (st : Link
   answered-zero = ap (λ (x : Left). x .answer .number) answers
 
   pub again : Playable sheet (exchangeOf sheet state memory command reply .state) (exchangeOf sheet state memory command reply .memory) lay
-      (outcomeOf sheet lay st (commandOf (lay .form) command) .next)
+      (outcomeFor sheet lay st command .next)
   again =
       let next = runs-on sheet state memory command lay st (p .valid) run in
       record {

@@ -10,6 +10,7 @@ use lib.Dec.{eqb}
 use lib.ListN.{length}
 use Rattle.octets.proofs.Pick.{pick-both, pick-cases}
 use Rattle.frame.specs.Fields.{commandOf}
+use Rattle.frame.specs.Unnamed.{strayOf}
 use Rattle.link.specs.Steps.{fresh, enabled}
 use Rattle.link.specs.Stored.{fieldsOf, octetsOf, stateOf}
 use Rattle.link.specs.Old.{oldStateOf}
@@ -184,7 +185,7 @@ module _ (sheet : List ℕ) where
         (λ e.
         let q = no-refusal lay st (length memory) (length command) (length reply) (eqb-true _ 0 (not-false _ e)) in
         let on : 1 ≤ st .link = omega (arith, q .3) in
-        written-valid lay _ v (outcome-valid sheet lay st (commandOf (lay .form) command) (lay .l) (read-valid state (lay .l) (lay .tolerance) st h .1) on (omega (arith, tolerance-small sheet lay v))))))
+        written-valid lay _ v (outcome-valid sheet lay st (commandOf (lay .form) command) (strayOf (lay .form) (lay .release) command) (lay .l) (read-valid state (lay .l) (lay .tolerance) st h .1) on (omega (arith, tolerance-small sheet lay v))))))
 
 -- the machine reads what the law calls valid, and no other
 module _ (h : Sheet) (w : WellFormed h) where

@@ -135,6 +135,8 @@ profile-is-not-checked h p q s m c r octet a =
         few-items = g .few-items;
         tolerances = g .tolerances;
         once = g .once;
+        releases = g .releases;
+        picked-once = g .picked-once;
       };
       written = refl;
       valid = a .valid;

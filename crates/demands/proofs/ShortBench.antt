@@ -33,11 +33,13 @@ s-good = record {
   few-items = omega arith;
   tolerances = (omega arith, tt);
   once = omega arith;
+  releases = tt;
+  picked-once = omega arith;
 }
 
 -- a sheet of its link record alone
 abbrev linked : PduType → Sheet
-linked pdu = record { pdu = pdu; l = 16; version = 0x30; profile = 0; regions = []; parameters = []; items = []; tolerances = [] }
+linked pdu = record { pdu = pdu; l = 16; version = 0x30; profile = 0; regions = []; parameters = []; items = []; tolerances = []; releases = [] }
 
 linked-good : (pdu : PduType) → GoodLength pdu 16 → WellFormed (linked pdu)
 linked-good pdu good = record {
@@ -55,6 +57,8 @@ linked-good pdu good = record {
   few-items = omega arith;
   tolerances = tt;
   once = omega arith;
+  releases = tt;
+  picked-once = omega arith;
 }
 
 -- no type has another length under kind 05

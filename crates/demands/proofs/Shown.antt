@@ -15,7 +15,7 @@ use Rattle.law.specs.Words.{when, Every, oneOf, Piece, piece}
 use Rattle.law.specs.Sheet.{PduType, enhanced, short, Sheet}
 use Rattle.law.specs.State.{link}
 use Rattle.law.specs.Memory.{Cell, cells, readable, has, hasAll, heldAt, held}
-use Rattle.law.specs.Table.{Check, check, Row, row, tableOf, table, parameter, address, n}
+use Rattle.law.specs.Table.{Check, check, Run, Row, row, tableOf, table, parameter, address, n}
 use Rattle.law.specs.Exchange.{fate, code, missed, checked, judged, fateOf, failing, passing, Fate}
 use Rattle.law.proofs.Laid.{when-yes, when-no}
 use Rattle.demands.specs.Writes.{cellAt}
@@ -80,8 +80,8 @@ judged-same s code (r ∷ rs) (q ∷ qs) (t, ts) =
     λ i. when (eqb code (t .code i)) (first i) (rest i)
 
 -- two reads of the same octets
-read-row : {k : ℕ} {links : List ℕ} {checks : List Check} {echo : Piece} {from : ℕ} {x y : List ℕ} → (Every Holds checks → x ≡ y)
-    → Twin (row k links checks [] (echo ∷ piece from x ∷ []) []) (row k links checks [] (echo ∷ piece from y ∷ []) [])
+read-row : {k : ℕ} {links : List ℕ} {named : List Run} {checks : List Check} {echo : Piece} {from : ℕ} {x y : List ℕ} → (Every Holds checks → x ≡ y)
+    → Twin (row k links named checks [] (echo ∷ piece from x ∷ []) []) (row k links named checks [] (echo ∷ piece from y ∷ []) [])
 read-row {echo = echo} {from} e =
     record { code = refl; links = refl; checks = refl; done = λ all. ap (λ (z : List ℕ). fate 0 0 [] (echo ∷ piece from z ∷ []) []) (e all) }
 
@@ -92,9 +92,9 @@ module _ (h : Sheet) (s m₁ m₂ c : List ℕ) (agree : AgreeShown (cells (h .r
   -- the rows that read
   twins-of : (pdu : PduType) → Twins (tableOf h s m₁ c pdu) (tableOf h s m₂ c pdu)
   twins-of enhanced =
-      (same-row _, (read-row (λ all. held-same (cells (h .regions)) m₁ m₂ (parameter h s m₁ c .address) (parameter h s m₁ c .size) agree (all .1 .1 .1 .0)), (same-row _, (same-row _, (same-row _, (same-row _, (same-row _, (same-row _, (same-row _, (read-row (λ all. held-same (cells (h .regions)) m₁ m₂ (address h s m₁ c) (n h s m₁ c) agree (all .1 .1 .1 .1 .0)), (same-row _, refl)))))))))))
+      (same-row _, (read-row (λ all. held-same (cells (h .regions)) m₁ m₂ (parameter h s m₁ c .address) (parameter h s m₁ c .size) agree (all .1 .1 .1 .1 .0)), (same-row _, (same-row _, (same-row _, (same-row _, (same-row _, (same-row _, (same-row _, (read-row (λ all. held-same (cells (h .regions)) m₁ m₂ (address h s m₁ c) (n h s m₁ c) agree (all .1 .1 .1 .1 .1 .0)), (same-row _, refl)))))))))))
   twins-of short =
-      (same-row _, (read-row (λ all. held-same (cells (h .regions)) m₁ m₂ (parameter h s m₁ c .address) (parameter h s m₁ c .size) agree (all .1 .1 .1 .0)), (same-row _, (same-row _, (same-row _, (same-row _, (same-row _, (same-row _, (same-row _, refl)))))))))
+      (same-row _, (read-row (λ all. held-same (cells (h .regions)) m₁ m₂ (parameter h s m₁ c .address) (parameter h s m₁ c .size) agree (all .1 .1 .1 .1 .0)), (same-row _, (same-row _, (same-row _, (same-row _, (same-row _, (same-row _, (same-row _, refl)))))))))
 
   twins : Twins (table h s m₁ c) (table h s m₂ c)
   twins = twins-of (h .pdu)

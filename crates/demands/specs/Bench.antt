@@ -21,9 +21,9 @@ sheetP =
     ∷ 0x03 ∷ 0x07 ∷ 0x00 ∷ 0x02 ∷ 0x10 ∷ 0x00 ∷ 0x00 ∷ 0x02
     ∷ 0x00 ∷ []
 
--- what sheet P says: the enhanced type, L 16, version 30 hex, profile 0, two regions, one parameter, no ID item, no failure tolerated, eight octets of memory
+-- what sheet P says: the enhanced type, L 16, version 30 hex, profile 0, two regions, one parameter, no ID item, no failure tolerated, release 1, eight octets of memory
 abbrev pub layoutP : Layout
-layoutP = record { form = Enhanced; l = 16; version = 0x30; profile = 0; regions = 2; parameters = 1; items = 0; tolerances = 0; tolerance = 0; memory = 8 }
+layoutP = record { form = Enhanced; l = 16; version = 0x30; profile = 0; regions = 2; parameters = 1; items = 0; tolerances = 0; tolerance = 0; releases = 0; release = 1; memory = 8 }
 
 -- "Memory 0A 0B 0C 0D 0E 0F 10 11."
 abbrev pub memoryP : List ℕ

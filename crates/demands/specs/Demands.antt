@@ -14,6 +14,7 @@ use Rattle.law.specs.Promises.{Promises}
 use Rattle.slave.specs.Exchange.{Left}
 use Rattle.demands.specs.Accepted.{AcceptanceIsExact, RightsOverWholeSpan}
 use Rattle.demands.specs.Bench.{SheetPIsValid, BenchCases}
+use Rattle.demands.specs.Granted.{MoreRightsChangeNothing, TraceAgreesToo, NotWithoutIt}
 use Rattle.demands.specs.Hidden.{Demand3}
 use Rattle.demands.specs.Identity.{IdentityComesBack, ControlIsIgnored}
 use Rattle.demands.specs.Idle.{Demand2, KeepsSecrets, AgreesWhereReached, refusesAll, singleReply, storesNothing, echoesAfterwards, inventsRsn}
@@ -22,6 +23,7 @@ use Rattle.demands.specs.Mapped.{ParametersAreMapped, MappedIsNotAsked}
 use Rattle.demands.specs.OnTheWire.{RefusedOnTheWire}
 use Rattle.demands.specs.Places.{FirstFailedIsTold, UnknownCodeIsTold, OctetsOfTheFields, NoFieldWasWrong, FirstWithoutTheRight, PlacesAreTheSame}
 use Rattle.demands.specs.Refused.{RefusedChangesNothing, StatesStayValid}
+use Rattle.demands.specs.Release.{SameWhereZero, AcceptedIfZero, TheFirstIsTold, NamedOctets}
 use Rattle.demands.specs.Replays.{TracesHaveReplies, AgreesExactly, ReplayIsFold, CutInTwo, FormsJoin, ReplayCutInTwo, SecretsInReplay, OnlyAgreeingReach, ReplayPlays, RecordsAreAnswered, SecretsInWholeReplay, RefusedReplayWritesNothing}
 use Rattle.demands.specs.Sequences.{Call, runOf, History}
 use Rattle.demands.specs.Short.{ShortReplies, NoMemoryCommands, ProfileIsNotChecked, OthersAreIgnored, SameFieldsSameFate}
@@ -80,7 +82,7 @@ pub record OnTheBench : Type 0 where
 -- reply. .. Demands 2 and 3 read with it; bench replies stay." Demands 1 to 3 and the bench cases above are of the machine with it.
 pub record Request1 : Type 0 where
   pub the-identity-comes-back : IdentityComesBack
-  -- of octets 2 and 3 nothing else shows: answers, states and memories are the same, and the replies differ in those two bits alone
+  -- of octets 2 and 3 nothing else shows in release 1 of the drive rules: answers, states and memories are the same, and the replies differ in those two bits alone
   pub control-is-ignored : ControlIsIgnored
 
 -- Document 02, request 3, "Say which octet was wrong". Demands 1 to 3 and the bench cases above are of the machine that tells it.
@@ -138,6 +140,7 @@ pub record Request7 : Type 0 where
   pub without-the-memory-commands : NoMemoryCommands
   -- "one not there isn't checked"
   pub the-profile-is-not-checked : ProfileIsNotChecked
+  -- in release 1 of the drive rules
   pub of-other-octets-nothing-shows : OthersAreIgnored
   -- "States, watchdog, rights and latches are those of the enhanced type"
   pub the-same-fields-come-to-the-same : SameFieldsSameFate
@@ -165,3 +168,25 @@ pub record Request9 : Type 0 where
   pub passing-counts-none : PassingCountsNone
   -- "A call turns a valid old record into a new one."
   pub an-old-record-is-turned : OldRecordsTurn
+
+-- Document 02, request 11, "More rights must not change what worked": "all answers, replies, states and memories are the same under both; prove it." For both types,
+-- both releases and every tolerance; places are in the answers.
+pub record Request11 : Type 0 where
+  pub more-rights-change-nothing : MoreRightsChangeNothing
+  -- a trace that the first sheet's drive answered without alarm 10 is told the same
+  pub its-traces-agree-too : TraceAgreesToo
+  -- "in which the first sheet never gives alarm 10"
+  pub not-without-it : NotWithoutIt
+
+-- Document 02, request 13, "Reserved octets, release 2": "a command octet that document 01 doesn't name must be zero. .. Demands 2 and 3 and request 11 hold under
+-- each." Demands 1 to 3 above are of every sheet, of either release; so are requests 3, 5, 6, 8 and 9, and of 1 and 7 all but what says that such octets are
+-- ignored, or that commands which differ in them come to the same.
+pub record Request13 : Type 0 where
+  -- "Prove once that both give equal results wherever those octets are zero."
+  pub the-same-where-they-are-zero : SameWhereZero
+  -- and release 2 accepts nothing else
+  pub accepted-exactly-if-zero : AcceptedIfZero
+  -- "alarm 9 at the first such octet, after a command's other data checks and before rights"
+  pub the-first-such-octet-is-told : TheFirstIsTold
+  -- the octets that each code names, in each type
+  pub the-named-octets : NamedOctets

@@ -5,6 +5,9 @@ use mathlib.Core.List.{List}
 use mathlib.Core.Path.{_≡_}
 use lib.ListN.{length, getD}
 use Rattle.law.specs.Sheet.{PduType, enhanced, short, Sheet}
+use Rattle.sheet.specs.Walk.{verdictOf}
+use Rattle.sheet.specs.declared.walk.Layout.{Layout}
+use Rattle.sheet.specs.declared.walk.Verdict.the-variants.{Valid}
 use Rattle.slave.specs.Exchange.{Left, exchangeOf}
 use Rattle.demands.specs.Answered.{Answered}
 
@@ -37,8 +40,12 @@ pub record OnlyIdentityDiffers (x y : Left) : Type 0 where
   pub other-octets : (k : ℕ) → (k ≡ 2 → ⊥) → getD (x .reply) k 0 ≡ getD (y .reply) k 0
   pub other-bits : getD (x .reply) 2 0 % 64 ≡ getD (y .reply) 2 0 % 64
 
--- for every sheet, state, memory and reply that are lent
+-- a sheet that is refused, or picks release 1 of the drive rules (request 13)
+abbrev pub NotRelease2 : List ℕ → Type 0
+NotRelease2 sheet = (lay : Layout) → verdictOf sheet ≡ Valid lay → lay .release ≡ 2 → ⊥
+
+-- for every such sheet, and every state, memory and reply that are lent; release 2 asks those octets to be zero, but for the two bits
 abbrev pub ControlIsIgnored : Type 0
 ControlIsIgnored =
-    (sheet state memory c d reply : List ℕ) → OnlyControlDiffers c d
+    (sheet state memory c d reply : List ℕ) → NotRelease2 sheet → OnlyControlDiffers c d
     → OnlyIdentityDiffers (exchangeOf sheet state memory c reply) (exchangeOf sheet state memory d reply)

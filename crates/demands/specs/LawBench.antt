@@ -19,6 +19,7 @@ lawP = record {
   parameters = record { number = 7; address = 0x1002; size = 2 } ∷ [];
   items = [];
   tolerances = [];
+  releases = [];
 }
 
 -- what a case wants, as a result

@@ -14,7 +14,9 @@ pub mod Places
 pub mod Watchdog
 pub mod Tolerated
 pub mod Short
+pub mod Release
 pub mod Replays
+pub mod Granted
 pub mod Unique
 pub mod Bench
 pub mod LawBench

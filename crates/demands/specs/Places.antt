@@ -9,7 +9,7 @@ use Rattle.law.specs.Words.{when, Every, Some, oneOf}
 use Rattle.law.specs.Sheet.{PduType, enhanced, short, Sheet, WellFormed, sheetOctets}
 use Rattle.law.specs.State.{link}
 use Rattle.law.specs.Memory.{Cell, cells, readable, writable, has}
-use Rattle.law.specs.Table.{Check, check, Row, table, parameter, address, n}
+use Rattle.law.specs.Table.{Check, check, Row, strayIn, table, parameter, address, n}
 use Rattle.law.specs.Exchange.{code, missed}
 use Rattle.slave.specs.Exchange.{Left, exchangeOf}
 use Rattle.demands.specs.Accepted.{Executed}
@@ -84,10 +84,18 @@ placesOf short =
     (0x00 ∷ []) ∷ (0x01 ∷ 4 ∷ 6 ∷ 6 ∷ []) ∷ (0x02 ∷ 4 ∷ 6 ∷ 6 ∷ []) ∷ (0x03 ∷ 4 ∷ 6 ∷ 6 ∷ 6 ∷ [])
     ∷ (0x05 ∷ 4 ∷ []) ∷ (0x06 ∷ 4 ∷ []) ∷ (0x0D ∷ []) ∷ (0x0E ∷ 4 ∷ 5 ∷ 6 ∷ []) ∷ (0x0F ∷ []) ∷ []
 
+-- each list with one place more
+abbrev pub eachWith : List (List ℕ) → List ℕ → List (List ℕ)
+eachWith [] ys = []
+eachWith (x ∷ xs) [] = []
+eachWith (x ∷ xs) (y ∷ ys) = (x ++ y ∷ []) ∷ eachWith xs ys
+
+-- and behind them, by request 13, the first octet that the row does not name and that should be zero
 abbrev pub OctetsOfTheFields : Type 0
 OctetsOfTheFields =
     (h : Sheet) (state memory command : List ℕ)
-    → map (λ (r : Row). r .code ∷ dataPlaces (r .checks)) (table h state memory command) ≡ placesOf (h .pdu)
+    → map (λ (r : Row). r .code ∷ dataPlaces (r .checks)) (table h state memory command)
+    ≡ eachWith (placesOf (h .pdu)) (map (λ (r : Row). strayIn h state memory command (h .pdu) (r .named)) (table h state memory command))
 
 -- "Alarms 8 and 12 and a failed watchdog have place 0", and so has an accepted command, which has alarm 0 as a failed watchdog has
 pub record NoField (h : Sheet) (state command : List ℕ) (l : Left) : Type 0 where

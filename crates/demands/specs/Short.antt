@@ -7,7 +7,7 @@ use mathlib.Core.Path.{_≡_}
 use lib.Dec.{eqb, leb}
 use lib.ListN.{length, getD, take, drop}
 use Rattle.law.specs.Words.{when, oneOf, octet, numberAt, laid}
-use Rattle.law.specs.Sheet.{PduType, enhanced, short, Sheet, IsOctet, sheetOctets}
+use Rattle.law.specs.Sheet.{PduType, enhanced, short, Sheet, IsOctet, isRelease2, sheetOctets}
 use Rattle.law.specs.State.{link, rsn, communicationLatch}
 use Rattle.law.specs.Exchange.{code, missed, fateOf, lowStatus}
 use Rattle.slave.specs.Exchange.{Left, exchangeOf}
@@ -49,6 +49,7 @@ withProfile h profile = record {
   parameters = h .parameters;
   items = h .items;
   tolerances = h .tolerances;
+  releases = h .releases;
 }
 
 -- "one not there isn't checked": whatever profile the sheet has, an exchange leaves the same
@@ -58,7 +59,7 @@ ProfileIsNotChecked =
     → Answered (withProfile h profile) (sheetOctets (withProfile h profile)) state memory command reply
     → exchangeOf (sheetOctets (withProfile h profile)) state memory command reply ≡ exchangeOf (sheetOctets (withProfile h other)) state memory command reply
 
--- two commands that have the same in the octets that the short type names: the code, WDT, and the fields of that code
+-- two commands that have the same in the octets that the short type names: the code, WDT, and the fields of that code; of PRM_WR all that its data could take
 pub record SameNamed (c d : List ℕ) : Type 0 where
   pub long : length c ≡ length d
   pub codes : octet c 0 ≡ octet d 0
@@ -69,10 +70,10 @@ pub record SameNamed (c d : List ℕ) : Type 0 where
   -- ALM_RD, ALM_CLR: 4
   pub modes : oneOf (octet c 0) (0x05 ∷ 0x06 ∷ []) ≡ true → octet c 4 ≡ octet d 4
 
--- of a command's other octets, a profile's among them, nothing shows
+-- of a command's other octets, a profile's among them, nothing shows in release 1 of the drive rules; release 2 asks them to be zero (request 13)
 abbrev pub OthersAreIgnored : Type 0
 OthersAreIgnored =
-    (h : Sheet) (sheet state memory c d reply : List ℕ) → h .pdu ≡ short → Answered h sheet state memory c reply → SameNamed c d
+    (h : Sheet) (sheet state memory c d reply : List ℕ) → h .pdu ≡ short → isRelease2 h ≡ false → Answered h sheet state memory c reply → SameNamed c d
     → exchangeOf sheet state memory c reply ≡ exchangeOf sheet state memory d reply
 
 -- a sheet with another type, the rest of it as it is
@@ -86,6 +87,7 @@ typed pdu h = record {
   parameters = h .parameters;
   items = h .items;
   tolerances = h .tolerances;
+  releases = h .releases;
 }
 
 -- any code but MEM_RD and MEM_WR, which the enhanced type alone has
@@ -108,10 +110,11 @@ pub record SameFields (h : Sheet) (c d : List ℕ) : Type 0 where
   pub connections : octet c 0 ≡ 0x0E → (octet c 4 ≡ octet d 4) × (octet c 5 ≡ octet d 5) × (octet c 6 ≡ octet d 6) × (octet d 7 ≡ h .profile)
 
 -- "States, watchdog, rights and latches are those of the enhanced type": two exchanges from one state and memory, by sheets that differ in the type alone, whose
--- commands have the same fields, come to the same alarm and place, the same next state and the same memory
+-- commands have the same fields, come to the same alarm and place, the same next state and the same memory; in release 1, to which release 2 comes
+-- where their other octets are zero (request 13)
 abbrev pub SameFieldsSameFate : Type 0
 SameFieldsSameFate =
-    (h : Sheet) (state memory c d r q : List ℕ)
+    (h : Sheet) (state memory c d r q : List ℕ) → isRelease2 h ≡ false
     → Answered (typed short h) (sheetOctets (typed short h)) state memory c r → Answered (typed enhanced h) (sheetOctets (typed enhanced h)) state memory d q
     → SameFields h c d → NoMemoryCode (code c)
     → (let x = exchangeOf (sheetOctets (typed short h)) state memory c r in let y = exchangeOf (sheetOctets (typed enhanced h)) state memory d q in

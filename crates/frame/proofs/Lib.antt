@@ -6,3 +6,6 @@ pub mod Kept
 pub mod Bodies
 pub mod Replies
 pub mod Alike
+pub mod Strays
+pub mod Names
+pub mod Clear

@@ -6,7 +6,7 @@ use lib.ListN.{getD}
 use Rattle.octets.specs.Numbers.{le2At, le4At}
 use Rattle.machine.specs.declared.words.Command.{Command}
 use Rattle.machine.specs.declared.words.Field.{Field}
-use Rattle.machine.specs.declared.words.Field.the-variants.{Whole, Number, Size, Item, Count, Mode, Address, Version, ComMod, ComTime, Profile, AlarmMode, Span}
+use Rattle.machine.specs.declared.words.Field.the-variants.{Whole, Number, Size, Item, Count, Mode, Address, Version, ComMod, ComTime, Profile, AlarmMode, Stray, Span}
 use Rattle.sheet.specs.declared.walk.Form.{Form}
 use Rattle.sheet.specs.declared.walk.Form.the-variants.{Enhanced, Short}
 use Rattle.frame.specs.Fields.{commandOf}
@@ -112,6 +112,10 @@ profile-at = record { told = refl }
 pub alarm-mode-at : Tells AlarmMode 4
 unfolding placeOf
 alarm-mode-at = record { told = refl }
+
+pub stray-at : (at : ℕ) → Tells (Stray at) at
+unfolding placeOf
+stray-at at = record { told = refl }
 
 pub span-at : (before : ℕ) → Tells (Span before) before
 unfolding placeOf

@@ -8,12 +8,12 @@ use Rattle.octets.specs.Numbers.{le2At}
 use Rattle.machine.specs.declared.words.Carrier.{Carrier}
 use Rattle.machine.specs.declared.words.Carrier.the-variants.{Parameter, Memory}
 use Rattle.machine.specs.declared.words.Field.{Field}
-use Rattle.machine.specs.declared.words.Field.the-variants.{Whole, Number, Size, Item, Count, Mode, Address, Version, ComMod, ComTime, Profile, AlarmMode, Span}
+use Rattle.machine.specs.declared.words.Field.the-variants.{Whole, Number, Size, Item, Count, Mode, Address, Version, ComMod, ComTime, Profile, AlarmMode, Stray, Span}
 use Rattle.sheet.specs.declared.walk.Form.{Form}
 use Rattle.sheet.specs.declared.walk.Form.the-variants.{Enhanced, Short}
 
 -- where a field begins, which is the place of a refusal that is about it. Request 3: "the first octet of the field that failed"; 0 where the whole command is
--- refused; for a span "how many octets .. come before the first that lacks the right". In both types a field that both have begins at the same octet
+-- refused; request 13: "the first such octet" of those that should be zero; for a span "how many octets .. come before the first that lacks the right". In both types a field that both have begins at the same octet
 unfoldable pub placeOf : Field → ℕ
 placeOf Whole = 0
 placeOf Number = 4
@@ -27,6 +27,7 @@ placeOf ComMod = 5
 placeOf ComTime = 6
 placeOf Profile = 7
 placeOf AlarmMode = 4
+placeOf (Stray at) = at
 placeOf (Span before) = before
 
 -- "octet 1 WDT", "octet 1 RWDT"; request 7: "WDT last", "RWDT last"
@@ -53,6 +54,11 @@ alarmsAt Short = 5
 unfoldable pub bodyEnd : Form → ℕ → ℕ
 bodyEnd Enhanced l = l
 bodyEnd Short l = l - 1
+
+-- ALM_RD and ALM_CLR have a mode of two octets, in the short type of one
+unfoldable pub modeSize : Form → ℕ
+modeSize Enhanced = 2
+modeSize Short = 1
 
 -- a field of two octets, in the short type of one
 unfoldable pub oneOrTwo : Form → List ℕ → ℕ → ℕ

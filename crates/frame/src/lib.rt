@@ -3,3 +3,4 @@ pub mod body; // body.rt: the reply's body and what enters the memory
 pub mod fields; // fields.rt: a command's fields
 pub mod head; // head.rt: the reply's head
 pub mod places; // places.rt: where things stand in each type
+pub mod unnamed; // unnamed.rt: the octets that a command does not name

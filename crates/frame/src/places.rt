@@ -3,7 +3,7 @@ use machine::words::Carrier;
 use machine::words::Field;
 use sheet::walk::Form;
 ghost use mathlib.Core.Path.{_≡_};
-ghost use Rattle.frame.specs.Places.{placeOf, ownAlarmAt, fieldsEnd, alarmsAt, dataFrom, echoFrom, echoSize};
+ghost use Rattle.frame.specs.Places.{placeOf, ownAlarmAt, fieldsEnd, alarmsAt, modeSize, dataFrom, echoFrom, echoSize};
 
 // The octet at which a field begins; of a span that lacks a right, the octets before the first that lacks it.
 pub fn place_of(field: Field) -> u8
@@ -22,6 +22,7 @@ pub fn place_of(field: Field) -> u8
         Field::ComTime => 6,
         Field::Profile => 7,
         Field::AlarmMode => 4,
+        Field::Stray(at) => at,
         Field::Span(before) => before,
     }
 }
@@ -53,6 +54,16 @@ pub fn alarms_at(form: Form) -> usize
     match form {
         Form::Enhanced => 8,
         Form::Short => 5,
+    }
+}
+
+// How many octets the alarm commands' mode has.
+pub fn mode_size(form: Form) -> usize
+    ensures { λ r. ⌜ r ≡ modeSize form ⌝ }
+{
+    match form {
+        Form::Enhanced => 2,
+        Form::Short => 1,
     }
 }
 

@@ -13,8 +13,9 @@ use Rattle.octets.proofs.Cases.{decided, eq-or-ne}
 use Rattle.octets.proofs.Pick.{pick-differ, pick-same, pick-eq, pick-ne}
 use Rattle.frame.specs.Body.{Fitting}
 use Rattle.frame.specs.Fields.{commandOf}
+use Rattle.frame.specs.Unnamed.{strayOf}
 use Rattle.frame.specs.Places.{Sized}
-use Rattle.law.proofs.Layouts.{formFor, layoutFor}
+use Rattle.law.proofs.Layouts.{formFor, releaseFor, layoutFor}
 use Rattle.law.specs.Words.{when, piece, laid, overFrom, over}
 use Rattle.law.specs.Sheet.{Sheet, WellFormed, sheetOctets, room, allows}
 use Rattle.law.specs.State.{link, validState, validOld}
@@ -26,13 +27,12 @@ use Rattle.link.specs.Stored.{octetsOf, fieldsOf, stateOf}
 use Rattle.link.specs.declared.state.LinkState.{LinkState}
 use Rattle.link.specs.Old.{oldStateOf}
 use Rattle.link.proofs.Facts.{Facts}
-use Rattle.machine.specs.Outcomes.{outcomeOf}
 use Rattle.sheet.proofs.Valid.{valid-sheet}
 use Rattle.sheet.specs.declared.walk.Layout.{Layout}
 use Rattle.sheet.specs.declared.walk.Verdict.{Verdict}
 use Rattle.slave.specs.Answers.{told, onSheet, onState}
 use Rattle.slave.specs.Calls.{After, after, resetOf, enableOf, turnOf}
-use Rattle.slave.specs.Exchange.{Left, left, refusalOf, exchanged, exchangeOf}
+use Rattle.slave.specs.Exchange.{Left, left, outcomeFor, refusalOf, exchanged, exchangeOf}
 use Rattle.slave.proofs.Fits.{outcome-fits}
 use Rattle.law.proofs.Laid.{when-yes, when-no}
 use Rattle.machine.proofs.Nexts.{outcome-valid}
@@ -59,11 +59,12 @@ pub done-same : (h : Sheet) → WellFormed h → (st : LinkState) → Facts (h .
 unfolding exchanged
 done-same h w st f m c whole asked on =
     let world = world-of h w m whole in
-    let o = outcomeOf (sheetOctets h) (layoutFor h) st (commandOf (formFor (h .pdu)) c) in
+    let o = outcomeFor (sheetOctets h) (layoutFor h) st c in
+    let u = strayOf (formFor (h .pdu)) (releaseFor h) c in
     let same = outcome-same h (sheetOctets h) st m c f on world (w .l) asked in
-    let v = outcome-valid (sheetOctets h) (layoutFor h) st (commandOf (formFor (h .pdu)) c) (h .l) f (some (st .link) on) (omega (arith, world .few)) in
+    let v = outcome-valid (sheetOctets h) (layoutFor h) st (commandOf (formFor (h .pdu)) c) u (h .l) f (some (st .link) on) (omega (arith, world .few)) in
     let fits = subst₂ (λ (x y : ℕ). Fitting (formFor (h .pdu)) (o .effect) x y (length (sheetOctets h))) (sym asked) (sym whole)
-    (outcome-fits (sheetOctets h) (layoutFor h) (valid-sheet (sheetOctets h) (layoutFor h) (complete h w)) st (commandOf (formFor (h .pdu)) c)) in
+    (outcome-fits (sheetOctets h) (layoutFor h) (valid-sheet (sheetOctets h) (layoutFor h) (complete h w)) st (commandOf (formFor (h .pdu)) c) u) in
     let r = reply-same h (sheetOctets h) st m c o (fateOf h (octetsOf st) m c) same (fate-small h (octetsOf st) m c) v asked (subst (Sized (formFor (h .pdu))) (sym asked) (pdu-sized (h .pdu) (h .l) (world .long) (w .l))) fits in
     λ i. result 0 (same .place i) (same .next i) (same .memory i) (r i)
 

@@ -1,21 +1,22 @@
 -- A code and its row, in the table of either type: the code, the link, then what the row asks.
 use mathlib.Core.Bool.{Bool, true, false, not}
 use mathlib.Core.Logic.{⊎-elim}
-use mathlib.Core.Path.{_≡_, refl, sym, ap, subst}
-use mathlib.Core.List.{List, _∷_}
-use Prim.Native.Nat.{ℕ, _/_, _%_}
+use mathlib.Core.Path.{_≡_, refl, sym, ap, ap₂, subst}
+use mathlib.Core.List.{List, _∷_, _++_}
+use Prim.Native.Nat.{ℕ, suc, _/_, _%_}
 use native.Mathlib.Omega.{arith}
 use lib.Dec.{eqb}
-use lib.ListN.{length, getD}
+use lib.ListN.{length, getD, take, drop}
 use Rattle.octets.specs.Pick.{pick}
 use Rattle.octets.proofs.Cases.{eq-or-ne}
 use Rattle.octets.proofs.Pick.{pick-yes, pick-no}
+use Rattle.frame.specs.Unnamed.{namesOf, isNamed as isNamedThere, strayAs}
 use Rattle.frame.proofs.Named.{named, whole-at, wdt-enhanced, wdt-short}
 use Rattle.link.specs.Stored.{octetsOf}
 use Rattle.link.specs.declared.state.LinkState.{LinkState}
 use Rattle.link.proofs.Facts.{Facts}
 use Rattle.machine.specs.Codes.{isKnown, isAllowed}
-use Rattle.machine.specs.Judging.{dataOf, judgeOf}
+use Rattle.machine.specs.Judging.{dataOf, strayed, judgeOf}
 use Rattle.machine.specs.Spans.{rightOf}
 use Rattle.machine.specs.declared.words.Field.the-variants.{Whole}
 use Rattle.machine.specs.declared.words.Judgement.{Judgement}
@@ -28,12 +29,13 @@ use Rattle.law.specs.Words.{when, oneOf}
 use Rattle.law.specs.Sheet.{PduType, enhanced, short, Sheet, GoodLength, allows as most}
 use Rattle.law.specs.State.{link}
 use Rattle.law.specs.Memory.{readable, writable}
-use Rattle.law.specs.Table.{check, Row}
+use Rattle.law.specs.Table.{Check, check, Row, headNamed, isNamed, strayIn}
 use Rattle.law.specs.Exchange.{Fate, code, wdt, refused, checked, judged}
 use Rattle.law.proofs.Goes.{in-links}
 use Rattle.law.proofs.Layouts.{formFor, layoutAs}
 use Rattle.law.proofs.World.{World}
 use Rattle.law.proofs.Rows.{J, refusing, via, step}
+use Rattle.law.proofs.Zeros.{stray-same, alarmed, between}
 
 -- a code is one of the eleven, or none
 pub by-code : (P : ℕ → Type 0) → P 0x00 → P 0x01 → P 0x02 → P 0x03 → P 0x05 → P 0x06 → P 0x0D → P 0x0E → P 0x0F → P 0x1D → P 0x1E
@@ -76,18 +78,31 @@ module _ (pdu : PduType) (h : Sheet) (sheet : List ℕ) (st : LinkState) (m c : 
   via-here = via pdu h sheet st m c facts on world good asked (wdt-same pdu (code c) c)
 
   module _ (rows : List Row) (k : ℕ) where
-    -- a known code: its row
-    pub known : (d : Judgement) (r : Row) → isKnown form k ≡ true → isAllowed (st .link) k ≡ oneOf (link s) (r .links) → dataOf sheet lay st (named form k c) ≡ d
+    -- the machine's octet that should be zero
+    abbrev pub strayHere : ℕ
+    strayHere = strayAs form (lay .release) k c
+
+    -- a known code: its row, which has so many data checks before that of the octets it does not name
+    pub known : (d : Judgement) (r : Row) (n : ℕ) → isKnown form k ≡ true → isAllowed (st .link) k ≡ oneOf (link s) (r .links) → dataOf sheet lay st (named form k c) ≡ d
+        → r .checks ≡ take n (r .checks) ++ check (eqb (strayIn h s m c pdu (r .named)) 0) 9 (strayIn h s m c pdu (r .named)) ∷ drop (suc n) (r .checks)
+        → alarmed 9 (take n (r .checks)) ≡ true → alarmed 10 (drop (suc n) (r .checks)) ≡ true
+        → ((i : ℕ) → isNamedThere (namesOf form k c) i ≡ isNamed (headNamed pdu ++ r .named) i)
         → judged s k rows ≡ checked s (check (oneOf (link s) (r .links)) 12 0 ∷ r .checks) r
-        → (oneOf (link s) (r .links) ≡ true → Is d (checked s (r .checks) r)) → Is (judgeOf sheet lay st (named form k c)) (judged s k rows)
+        → (oneOf (link s) (r .links) ≡ true → Is d (checked s (take n (r .checks) ++ drop (suc n) (r .checks)) r))
+        → Is (judgeOf sheet lay st (named form k c) strayHere) (judged s k rows)
     unfolding judgeOf checked
-    known d r e₁ e₂ e₃ e₄ g =
-        subst (λ (f : Fate). Is (judgeOf sheet lay st (named form k c)) f) (sym e₄)
+    known d r n e₁ e₂ e₃ split nine ten same e₄ g =
+        let u = strayIn h s m c pdu (r .named) in
+        let w = wdt-same pdu (code c) c in
+        subst (λ (f : Fate). Is (judgeOf sheet lay st (named form k c) strayHere) f) (sym e₄)
         (via-here (pick-no _ _ (ap not e₁))
-        (step pdu h sheet st m c facts on world good asked (wdt-same pdu (code c) c) _ _ 12 whole-at (ap not e₂) (λ a. via-here e₃ (g a))))
+        (step pdu h sheet st m c facts on world good asked w _ _ 12 whole-at (ap not e₂) (λ a.
+        via-here (ap₂ strayed (stray-same pdu h s m c k (r .named) same) e₃)
+        (subst (λ (ks : List Check). Is (strayed u d) (checked s ks r)) (sym split)
+        (between pdu h sheet st m c facts on world good asked w u (drop (suc n) (r .checks)) r ten (take n (r .checks)) d nine (g a))))))
 
     -- a code that the table lacks
-    pub unknown : isKnown form k ≡ false → judged s k rows ≡ refused s 8 0 → Is (judgeOf sheet lay st (named form k c)) (judged s k rows)
+    pub unknown : isKnown form k ≡ false → judged s k rows ≡ refused s 8 0 → Is (judgeOf sheet lay st (named form k c) strayHere) (judged s k rows)
     unfolding judgeOf
     unknown e₁ e₂ =
         via-here (pick-yes _ _ (ap not e₁))

@@ -13,18 +13,18 @@ use Rattle.octets.proofs.Pick.{pick-yes, pick-no, pick-ge, pick-ne}
 use Rattle.regions.specs.Region.{regionsOf}
 use Rattle.sheet.specs.Kinds.{isKind, sizeOf, misplacedOf, endBefore, leastNumber, leastCode}
 use Rattle.sheet.specs.Reading.{linkOf, bodyOf, recordOf}
-use Rattle.sheet.specs.Walk.{none, toleranceIn, layoutOf, endedOf, onward, walkOf, verdictOf}
+use Rattle.sheet.specs.Walk.{none, toleranceIn, releaseIn, layoutOf, endedOf, onward, walkOf, verdictOf}
 use Rattle.sheet.specs.declared.records.Counts.{Counts}
 use Rattle.sheet.specs.declared.records.Reading.the-variants.{Record}
 use Rattle.sheet.specs.declared.walk.Layout.{Layout}
 use Rattle.sheet.specs.declared.walk.Verdict.{Verdict}
 use Rattle.sheet.specs.declared.walk.Verdict.the-variants.{Valid}
 use Rattle.law.specs.Words.{Every, From, InARow, joined, sumOf, octet}
-use Rattle.law.specs.Sheet.{Item as Ident, Sheet, GoodRegion, GoodParameter, GoodItem, WellFormed, PduType, GoodLength, linkKind, regionOctets, parameterOctets, itemOctets, toleranceOctets, written, sheetOctets, room}
+use Rattle.law.specs.Sheet.{Item as Ident, Sheet, GoodRegion, GoodParameter, GoodItem, GoodRelease, WellFormed, PduType, GoodLength, linkKind, regionOctets, parameterOctets, itemOctets, toleranceOctets, releaseOctets, written, sheetOctets, room}
 use Rattle.law.proofs.Links.{link-back, link-known, length-back, form-is}
 use Rattle.sheet.proofs.Onward.{link-begins}
 use Rattle.law.proofs.Running.{Ends, walk-on, run-all, length-joined}
-use Rattle.law.proofs.Readings.{behind-link, regions-listed, read-area, next-area, read-param, next-param, read-ident, next-ident, read-tolerance}
+use Rattle.law.proofs.Readings.{behind-link, regions-listed, read-area, next-area, read-param, next-param, read-ident, next-ident, read-tolerance, read-release}
 use Rattle.law.proofs.Layouts.{layoutFor, full, counts, countsFor, asRegion}
 
 -- the end record, and what comes before the first record
@@ -84,29 +84,50 @@ any-row (x ∷ xs) = from x xs
     from x (y ∷ ys) = (omega arith, from y ys)
 
 -- the octet behind the items is what the sheet allows
-pub tolerance-there : (s ts t : List ℕ) (r p k m : ℕ) → drop (4 + 10 * r + 8 * p + 35 * k) s ≡ joined toleranceOctets ts ++ t
-    → toleranceIn s (full r p k (length ts) m) ≡ octet ts 0
+pub tolerance-there : (s ts t : List ℕ) (r p k v m : ℕ) → drop (4 + 10 * r + 8 * p + 35 * k) s ≡ joined toleranceOctets ts ++ t
+    → toleranceIn s (full r p k (length ts) v m) ≡ octet ts 0
 unfolding toleranceIn
-tolerance-there s [] t r p k m at = pick-yes _ _ refl
-tolerance-there s (x ∷ xs) t r p k m at =
+tolerance-there s [] t r p k v m at = pick-yes _ _ refl
+tolerance-there s (x ∷ xs) t r p k v m at =
     let b = 4 + 10 * r + 8 * p + 35 * k in
     pick-ne _ _ (λ (z : suc (length xs) ≡ 0). let w : ⊥ = omega arith in w)
     ∙ ap (λ (i : ℕ). getD s i 0) (let e : 5 + 10 * r + 8 * p + 35 * k ≡ b + 1 = omega arith in e)
     ∙ sym (getD-drop b s 1 0) ∙ ap (λ (l : List ℕ). getD l 1 0) at
 
+-- and the octet behind that record is the release that the sheet picks
+pub release-there : (s vs t : List ℕ) (r p k q m : ℕ) → drop (4 + 10 * r + 8 * p + 35 * k + 2 * q) s ≡ joined releaseOctets vs ++ t
+    → releaseIn s (full r p k q (length vs) m) ≡ getD vs 0 1
+unfolding releaseIn
+release-there s [] t r p k q m at = pick-yes _ _ refl
+release-there s (x ∷ xs) t r p k q m at =
+    let b = 4 + 10 * r + 8 * p + 35 * k + 2 * q in
+    pick-ne _ _ (λ (z : suc (length xs) ≡ 0). let w : ⊥ = omega arith in w)
+    ∙ ap (λ (i : ℕ). getD s i 0) (let e : 5 + 10 * r + 8 * p + 35 * k + 2 * q ≡ b + 1 = omega arith in e)
+    ∙ sym (getD-drop b s 1 0) ∙ ap (λ (l : List ℕ). getD l 1 0) at
+
 -- what stands behind regions, parameters and items of a written sheet
 pub behind-items : (h : Sheet) → WellFormed h → (rest : List ℕ)
-    → drop (4 + 10 * length (h .regions) + 8 * length (h .parameters) + 35 * length (h .items)) (written h rest) ≡ joined toleranceOctets (h .tolerances) ++ rest
+    → drop (4 + 10 * length (h .regions) + 8 * length (h .parameters) + 35 * length (h .items)) (written h rest)
+    ≡ joined toleranceOctets (h .tolerances) ++ (joined releaseOctets (h .releases) ++ rest)
 behind-items h w rest =
     let s = written h rest in
     let r = length (h .regions) in
     let p = length (h .parameters) in
-    let tt : List ℕ = joined toleranceOctets (h .tolerances) ++ rest in
+    let tt : List ℕ = joined toleranceOctets (h .tolerances) ++ (joined releaseOctets (h .releases) ++ rest) in
     let ti : List ℕ = joined itemOctets (h .items) ++ tt in
     let tp : List ℕ = joined parameterOctets (h .parameters) ++ ti in
     behind-all itemOctets GoodItem 35 ident-long s (4 + 10 * r + 8 * p) (h .items) tt (w .items)
     (behind-all parameterOctets (GoodParameter (h .regions)) 8 (λ x g. refl) s (4 + 10 * r) (h .parameters) ti (w .parameters)
     (behind-all regionOctets GoodRegion 10 (λ x g. refl) s 4 (h .regions) tp (w .regions) refl))
+
+-- and behind the tolerance
+pub behind-tolerance : (h : Sheet) → WellFormed h → (rest : List ℕ)
+    → drop (4 + 10 * length (h .regions) + 8 * length (h .parameters) + 35 * length (h .items) + 2 * length (h .tolerances)) (written h rest)
+    ≡ joined releaseOctets (h .releases) ++ rest
+behind-tolerance h w rest =
+    behind-all toleranceOctets (λ n. n ≤ 3) 2 (λ x g. refl) (written h rest)
+    (4 + 10 * length (h .regions) + 8 * length (h .parameters) + 35 * length (h .items)) (h .tolerances) (joined releaseOctets (h .releases) ++ rest)
+    (w .tolerances) (behind-items h w rest)
 
 -- the walk over the writing of a well-formed sheet comes to what stands behind it
 pub come-behind : (h : Sheet) → WellFormed h → (rest : List ℕ) (v : Verdict) → length (written h rest) ≤ 2048
@@ -118,7 +139,7 @@ come-behind h w rest v short go =
     let p = length (h .parameters) in
     let k = length (h .items) in
     let m = room (h .regions) in
-    let tt : List ℕ = joined toleranceOctets (h .tolerances) ++ rest in
+    let tt : List ℕ = joined toleranceOctets (h .tolerances) ++ (joined releaseOctets (h .releases) ++ rest) in
     let ti : List ℕ = joined itemOctets (h .items) ++ tt in
     let tp : List ℕ = joined parameterOctets (h .parameters) ++ ti in
     let ta : List ℕ = joined regionOctets (h .regions) ++ tp in
@@ -127,12 +148,19 @@ come-behind h w rest v short go =
     behind-all parameterOctets (GoodParameter (h .regions)) 8 (λ x g. refl) s (4 + 10 * r) (h .parameters) ti (w .parameters) at-p in
     let at-t : drop (4 + 10 * r + 8 * p + 35 * k) s ≡ tt = behind-items h w rest in
     let same : regionsOf s r ≡ map asRegion (h .regions) = regions-listed s (h .regions) tp 0 refl (w .regions) in
+    let q = length (h .tolerances) in
+    let go-releases : Ends s v (joined releaseOctets (h .releases) ++ rest) (full r p k q 0 m) =
+    run-all s v releaseOctets GoodRelease (λ n. 0) (λ n. 0) (λ n. 0) (4 + 10 * r + 8 * p + 35 * k + 2 * q) 2 1 (sumOf (λ n. 0) (h .releases))
+    (λ n z. full r p k q n m) (λ n z. 0) (omega arith) (λ x g. refl)
+    (λ x t (e : 7 ≡ 0). let z : ⊥ = omega arith in z)
+    (λ x t n z at g l u y. read-release s r p k q m x t n at g u) (λ x t n z at g. refl)
+    (h .releases) rest (behind-tolerance h w rest) (w .releases) refl (any-row (h .releases)) (w .picked-once) (le-refl _) go in
     let go-tolerances : Ends s v tt (counts r p k m) =
     run-all s v toleranceOctets (λ n. n ≤ 3) (λ n. 0) (λ n. 0) (λ n. 0) (4 + 10 * r + 8 * p + 35 * k) 2 1 (sumOf (λ n. 0) (h .tolerances))
-    (λ n z. full r p k n m) (λ n z. 0) (omega arith) (λ x g. refl)
+    (λ n z. full r p k n 0 m) (λ n z. 0) (omega arith) (λ x g. refl)
     (λ x t (e : 6 ≡ 0). let z : ⊥ = omega arith in z)
     (λ x t n z at g l u q. read-tolerance s r p k m x t n at g u) (λ x t n z at g. refl)
-    (h .tolerances) rest at-t (w .tolerances) refl (any-row (h .tolerances)) (w .once) (le-refl _) go in
+    (h .tolerances) (joined releaseOctets (h .releases) ++ rest) at-t (w .tolerances) refl (any-row (h .tolerances)) (w .once) (le-refl _) go-releases in
     let go-items : Ends s v ti (counts r p 0 m) =
     run-all s v itemOctets GoodItem (λ i. i .code) (λ i. suc (i .code)) (λ i. 0) (4 + 10 * r + 8 * p) 35 32 (sumOf (λ i. 0) (h .items))
     (λ n z. counts r p n m) (λ n z. leastCode s (counts r p n m)) (omega arith) ident-long
@@ -160,14 +188,20 @@ unfolding layoutOf
 complete h w =
     let s = sheetOctets h in
     let end : List ℕ = 0 ∷ [] in
-    let tt : List ℕ = joined toleranceOctets (h .tolerances) ++ end in
+    let tr : List ℕ = joined releaseOctets (h .releases) ++ end in
+    let tt : List ℕ = joined toleranceOctets (h .tolerances) ++ tr in
     let ti : List ℕ = joined itemOctets (h .items) ++ tt in
     let tp : List ℕ = joined parameterOctets (h .parameters) ++ ti in
     let la = length-joined regionOctets GoodRegion 10 (λ x g. refl) (h .regions) tp (w .regions) in
     let lp = length-joined parameterOctets (GoodParameter (h .regions)) 8 (λ x g. refl) (h .parameters) ti (w .parameters) in
     let lk = length-joined itemOctets GoodItem 35 ident-long (h .items) tt (w .items) in
-    let lt = length-joined toleranceOctets (λ n. n ≤ 3) 2 (λ x g. refl) (h .tolerances) end (w .tolerances) in
-    let t = tolerance-there s (h .tolerances) end (length (h .regions)) (length (h .parameters)) (length (h .items)) (room (h .regions)) (behind-items h w end) in
+    let lt = length-joined toleranceOctets (λ n. n ≤ 3) 2 (λ x g. refl) (h .tolerances) tr (w .tolerances) in
+    let lr = length-joined releaseOctets GoodRelease 2 (λ x g. refl) (h .releases) end (w .releases) in
+    let r = length (h .regions) in
+    let p = length (h .parameters) in
+    let k = length (h .items) in
+    let t = tolerance-there s (h .tolerances) tr r p k (length (h .releases)) (room (h .regions)) (behind-items h w end) in
+    let v = release-there s (h .releases) end r p k (length (h .tolerances)) (room (h .regions)) (behind-tolerance h w end) in
     let same : layoutOf s (countsFor h) ≡ layoutFor h = λ i. record {
       form = form-is (h .pdu) i;
       l = h .l;
@@ -178,7 +212,9 @@ complete h w =
       items = length (h .items);
       tolerances = length (h .tolerances);
       tolerance = t i;
+      releases = length (h .releases);
+      release = v i;
       memory = room (h .regions);
     } in
-    come-behind h w end (Valid (layoutFor h)) (omega (arith, la, lp, lk, lt, w .few-regions .0, w .few-parameters, w .few-items, w .once))
+    come-behind h w end (Valid (layoutFor h)) (omega (arith, la, lp, lk, lt, lr, w .few-regions .0, w .few-parameters, w .few-items, w .once, w .picked-once))
     (subst (λ (lay : Layout). Ends s (Valid lay) end (countsFor h)) same (end-read s (countsFor h) (omega arith)))

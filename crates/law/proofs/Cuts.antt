@@ -19,8 +19,8 @@ use Rattle.regions.specs.declared.Region.{Region}
 use Rattle.regions.specs.declared.Right.the-variants.{Mapped}
 use Rattle.regions.proofs.Bounds.{holds-bounds}
 use Rattle.sheet.specs.Entries.{parameterFrom}
-use Rattle.law.specs.Words.{Every, Some, octet}
-use Rattle.law.specs.Sheet.{IsOctet, InRegion, regionOctets, parameterOctets, itemOctets, toleranceOctets, room}
+use Rattle.law.specs.Words.{Every, Some}
+use Rattle.law.specs.Sheet.{IsOctet, InRegion, regionOctets, parameterOctets, itemOctets, toleranceOctets, releaseOctets, room}
 use Rattle.law.proofs.Written.{two-octets, four-octets, opened}
 use Rattle.law.proofs.Layouts.{asArea, asParam, identFrom}
 
@@ -50,6 +50,10 @@ module _ (l : List ℕ) (o : (i : ℕ) → getD l i 0 < 256) where
   pub cut-tolerance : 2 ≤ length l → getD l 0 0 ≡ 6 → l ≡ toleranceOctets (getD l 1 0) ++ drop 2 l
   unfolding listed
   cut-tolerance h k = opened l 0 2 h ∙ ap (λ (x : ℕ). x ∷ getD l 1 0 ∷ drop 2 l) k
+
+  pub cut-release : 2 ≤ length l → getD l 0 0 ≡ 7 → l ≡ releaseOctets (getD l 1 0) ++ drop 2 l
+  unfolding listed
+  cut-release h k = opened l 0 2 h ∙ ap (λ (x : ℕ). x ∷ getD l 1 0 ∷ drop 2 l) k
 
 pub zeros-back : (l : List ℕ) → allZero l ≡ true → Every (λ (x : ℕ). x ≡ 0) l
 unfolding allZero
@@ -92,11 +96,11 @@ octets-take zero s o = tt
 octets-take (suc n) [] o = tt
 octets-take (suc n) (x ∷ xs) o = (o .0, octets-take n xs (o .1))
 
-pub listed-none : (g : ℕ → ℕ) → octet (listed g 0 0) 0 ≡ 0
+pub listed-none : (g : ℕ → ℕ) (d : ℕ) → getD (listed g 0 0) 0 d ≡ d
 unfolding listed
-listed-none g = refl
+listed-none g d = refl
 
-pub listed-first : (g : ℕ → ℕ) (n : ℕ) → 1 ≤ n → octet (listed g 0 n) 0 ≡ g 0
+pub listed-first : (g : ℕ → ℕ) (n d : ℕ) → 1 ≤ n → getD (listed g 0 n) 0 d ≡ g 0
 unfolding listed
-listed-first g zero h = absurd (let k : ⊥ = omega arith in k)
-listed-first g (suc n) h = refl
+listed-first g zero d h = absurd (let k : ⊥ = omega arith in k)
+listed-first g (suc n) d h = refl

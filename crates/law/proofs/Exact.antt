@@ -20,11 +20,11 @@ use Rattle.sheet.specs.declared.records.Reading.the-variants.{Record, Bad}
 use Rattle.sheet.specs.declared.walk.Verdict.{Verdict}
 use Rattle.sheet.specs.declared.walk.Verdict.the-variants.{Faulty}
 use Rattle.law.specs.Words.{Every, joined}
-use Rattle.law.specs.Sheet.{Sheet, GoodRegion, GoodParameter, GoodItem, WellFormed, IsOctet, regionOctets, parameterOctets, itemOctets, toleranceOctets, written, room}
+use Rattle.law.specs.Sheet.{Sheet, GoodRegion, GoodParameter, GoodItem, GoodRelease, WellFormed, IsOctet, regionOctets, parameterOctets, itemOctets, toleranceOctets, releaseOctets, written, room}
 use Rattle.law.specs.Faults.{Sofar, nothing, records, before, GoodSofar, AfterEnd, RecordFault, FaultAt, FirstFault}
 use Rattle.law.proofs.Checks.{same-number}
 use Rattle.law.proofs.Readings.{area-at, param-at, regions-listed, behind-link}
-use Rattle.law.proofs.Complete.{come-behind, behind-all, behind-items, ident-long}
+use Rattle.law.proofs.Complete.{come-behind, behind-all, behind-items, behind-tolerance, ident-long}
 use Rattle.law.proofs.Links.{kind-pdu}
 use Rattle.law.proofs.Front.{readSheet}
 use Rattle.law.proofs.Place.{first-fault, later-fault}
@@ -61,7 +61,8 @@ read-back h rest w =
     let s = written h rest in
     let r = length (h .regions) in
     let p = length (h .parameters) in
-    let tt : List ℕ = joined toleranceOctets (h .tolerances) ++ rest in
+    let tr : List ℕ = joined releaseOctets (h .releases) ++ rest in
+    let tt : List ℕ = joined toleranceOctets (h .tolerances) ++ tr in
     let ti : List ℕ = joined itemOctets (h .items) ++ tt in
     let tp : List ℕ = joined parameterOctets (h .parameters) ++ ti in
     let at-p : drop (4 + 10 * r) s ≡ tp = behind-all regionOctets GoodRegion 10 (λ x g. refl) s 4 (h .regions) tp (w .regions) refl in
@@ -75,8 +76,11 @@ read-back h rest w =
     (λ x t n at g. sym (ident-there s (4 + 10 * r + 8 * p + 35 * n)) ∙ ap (λ (l : List ℕ). identFrom l 0) at ∙ ident-same x t (g .all32)) (h .items) tt at-k (w .items) in
     let k = length (h .items) in
     let d = all-back toleranceOctets (λ (n : ℕ). getD s (4 + 10 * r + 8 * p + 35 * k + 2 * n + 1) 0) (λ n. n ≤ 3) 2 (4 + 10 * r + 8 * p + 35 * k) s (λ x g. refl)
-    (λ x t n at g. sym (getD-drop (4 + 10 * r + 8 * p + 35 * k + 2 * n) s 1 0) ∙ ap (λ (l : List ℕ). getD l 1 0) at) (h .tolerances) rest (behind-items h w rest) (w .tolerances) in
-    λ i. record { pdu = kind-pdu (h .pdu) i; l = h .l; version = h .version; profile = h .profile; regions = a i; parameters = b i; items = c i; tolerances = d i }
+    (λ x t n at g. sym (getD-drop (4 + 10 * r + 8 * p + 35 * k + 2 * n) s 1 0) ∙ ap (λ (l : List ℕ). getD l 1 0) at) (h .tolerances) tr (behind-items h w rest) (w .tolerances) in
+    let b₇ = 4 + 10 * r + 8 * p + 35 * k + 2 * length (h .tolerances) in
+    let f = all-back releaseOctets (λ (n : ℕ). getD s (b₇ + 2 * n + 1) 0) GoodRelease 2 b₇ s (λ x g. refl)
+    (λ x t n at g. sym (getD-drop (b₇ + 2 * n) s 1 0) ∙ ap (λ (l : List ℕ). getD l 1 0) at) (h .releases) rest (behind-tolerance h w rest) (w .releases) in
+    λ i. record { pdu = kind-pdu (h .pdu) i; l = h .l; version = h .version; profile = h .profile; regions = a i; parameters = b i; items = c i; tolerances = d i; releases = f i }
 
 bad-ends : (s rest : List ℕ) (so : Counts) (f : Fault) → recordOf s rest so ≡ Bad f → Ends s (Faulty f (placeOf s rest)) rest so
 unfolding walkOf onward
@@ -103,17 +107,19 @@ octets-behind (x ∷ xs) t o = octets-behind xs t (o .1)
 
 written-octets : (h : Sheet) (rest : List ℕ) → Every IsOctet (written h rest) → Every IsOctet rest
 written-octets h rest o =
-    octets-behind (joined toleranceOctets (h .tolerances)) rest (octets-behind (joined itemOctets (h .items)) _ (octets-behind (joined parameterOctets (h .parameters)) _ (octets-behind (joined regionOctets (h .regions)) _ (o .1 .1 .1 .1))))
+    octets-behind (joined releaseOctets (h .releases)) rest (octets-behind (joined toleranceOctets (h .tolerances)) _ (octets-behind (joined itemOctets (h .items)) _ (octets-behind (joined parameterOctets (h .parameters)) _ (octets-behind (joined regionOctets (h .regions)) _ (o .1 .1 .1 .1)))))
 
 written-longer : (h : Sheet) (rest : List ℕ) → length rest < length (written h rest)
 written-longer h rest =
-    let tt : List ℕ = joined toleranceOctets (h .tolerances) ++ rest in
+    let tr : List ℕ = joined releaseOctets (h .releases) ++ rest in
+    let tt : List ℕ = joined toleranceOctets (h .tolerances) ++ tr in
     let ti : List ℕ = joined itemOctets (h .items) ++ tt in
-    let d = length-append (joined toleranceOctets (h .tolerances)) rest in
+    let e = length-append (joined releaseOctets (h .releases)) rest in
+    let d = length-append (joined toleranceOctets (h .tolerances)) tr in
     let a = length-append (joined itemOctets (h .items)) tt in
     let b = length-append (joined parameterOctets (h .parameters)) ti in
     let c = length-append (joined regionOctets (h .regions)) (joined parameterOctets (h .parameters) ++ ti) in
-    omega (arith, a, b, c, d)
+    omega (arith, a, b, c, d, e)
 
 exact-at : (x : Sofar) (rest : List ℕ) (f : Fault) (place : ℕ) → GoodSofar x → Every IsOctet (before x rest) → length (before x rest) ≤ 2048
     → ((place + length rest ≡ length (before x rest)) × RecordFault x rest (numberOf f))

@@ -1,6 +1,6 @@
 -- What becomes of a command: the machine's outcome and the table's.
 use mathlib.Core.Bool.{Bool, true, false, not, _&&_, _||_}
-use mathlib.Core.Path.{_≡_, refl, sym, subst, _∙_}
+use mathlib.Core.Path.{_≡_, refl, sym, subst, subst₂, _∙_}
 use mathlib.Core.List.{List}
 use Prim.Native.Nat.{ℕ, zero, suc, _+_, _/_, _%_, _≤_, _<_}
 use native.Mathlib.Omega.{arith}
@@ -8,10 +8,11 @@ use borrow.Author.Tests.{ltb-true}
 use lib.Dec.{eqb, ltb}
 use lib.ListN.{length}
 use Rattle.octets.specs.Pick.{pick}
-use Rattle.frame.specs.Fields.{commandOf}
+use Rattle.frame.specs.Unnamed.{strayAs}
 use Rattle.frame.proofs.Bodies.{quiet-at}
 use Rattle.frame.proofs.Kept.{quiet-keeps}
 use Rattle.frame.proofs.Named.{named, command-named, whole-at}
+use Rattle.frame.proofs.Strays.{stray-of}
 use Rattle.law.specs.Words.{when, laid}
 use Rattle.law.specs.Sheet.{PduType, enhanced, short, Sheet, GoodLength, allows as most}
 use Rattle.law.specs.State.{link, failures}
@@ -29,10 +30,11 @@ use Rattle.machine.specs.declared.words.Field.the-variants.{Whole}
 use Rattle.machine.specs.declared.words.Judgement.{Judgement}
 use Rattle.machine.specs.declared.words.Outcome.{Outcome}
 use Rattle.sheet.specs.declared.walk.Form.{Form}
+use Rattle.slave.specs.Exchange.{outcomeFor}
 use Rattle.law.proofs.Codes.{wdt-same, Is}
 use Rattle.law.proofs.EnhancedRows.{judge-enhanced}
 use Rattle.law.proofs.Goes.{goes-lost, goes-tolerated}
-use Rattle.law.proofs.Layouts.{formFor, layoutAs, layoutFor}
+use Rattle.law.proofs.Layouts.{formFor, releaseFor, layoutAs, layoutFor}
 use Rattle.law.proofs.Rows.{Same, J, unmoved}
 use Rattle.law.proofs.ShortRows.{judge-short}
 use Rattle.law.proofs.World.{World}
@@ -44,7 +46,7 @@ and-first false b e = e
 -- the table of either type
 judge-same : (pdu : PduType) (h : Sheet) (sheet : List ℕ) (st : LinkState) (m c : List ℕ) (facts : Facts (h .l) (most h) st) (on : st .link ≡ 0 → ⊥)
     (world : World h sheet m) (good : GoodLength pdu (h .l)) (asked : length c ≡ h .l) (n : ℕ)
-    → Is pdu h sheet st m c facts on world good asked (judgeOf sheet (layoutAs pdu h) st (named (formFor pdu) n c)) (judged (octetsOf st) n (tableOf h (octetsOf st) m c pdu))
+    → Is pdu h sheet st m c facts on world good asked (judgeOf sheet (layoutAs pdu h) st (named (formFor pdu) n c) (strayAs (formFor pdu) (releaseFor h) n c)) (judged (octetsOf st) n (tableOf h (octetsOf st) m c pdu))
 judge-same enhanced = judge-enhanced
 judge-same short = judge-short
 
@@ -93,21 +95,25 @@ module _ (h : Sheet) (sheet : List ℕ) (st : LinkState) (m c : List ℕ) (facts
 
   -- by the law's WDT
   told-same : let n = named form (code c) c in
+      let u = strayAs form (releaseFor h) (code c) c in
       Alike (pick (eqb (st .link) 3 && not (followsOf (st .watch) (wdt (h .pdu) c))) (comesTo 0 Whole Quiet (missedOf (most h) st mn))
-      (finished st n (judgeOf sheet (layoutFor h) st n))) (fateOf h s m c)
+      (finished st n (judgeOf sheet (layoutFor h) st n u))) (fateOf h s m c)
   unfolding fateOf followsOf octetsOf
   told-same =
       let n = named form (code c) c in
-      subst (λ (b : Bool). Alike (pick (eqb (st .link) 3 && b) (comesTo 0 Whole Quiet (missedOf (most h) st mn)) (finished st n (judgeOf sheet (layoutFor h) st n))) (fateOf h s m c))
+      let u = strayAs form (releaseFor h) (code c) c in
+      subst (λ (b : Bool). Alike (pick (eqb (st .link) 3 && b) (comesTo 0 Whole Quiet (missedOf (most h) st mn)) (finished st n (judgeOf sheet (layoutFor h) st n u))) (fateOf h s m c))
       (sym (follows (st .watch .known) (facts .known) (eqb mn ((st .watch .last + 1) % 16) && eqb sn (st .watch .rsn))))
       (lost-or _ (λ e. and-first _ _ e) (judge-same (h .pdu) h sheet st m c facts on world good asked (code c)))
 
-  named-same : Alike (outcomeOf sheet (layoutFor h) st (named form (code c) c)) (fateOf h s m c)
+  named-same : Alike (outcomeOf sheet (layoutFor h) st (named form (code c) c) (strayAs form (releaseFor h) (code c) c)) (fateOf h s m c)
   unfolding outcomeOf
   named-same =
       let n = named form (code c) c in
+      let u = strayAs form (releaseFor h) (code c) c in
       subst (λ (w : ℕ). Alike (pick (eqb (st .link) 3 && not (followsOf (st .watch) w)) (comesTo 0 Whole Quiet (missedOf (most h) st (w % 16)))
-      (finished st n (judgeOf sheet (layoutFor h) st n))) (fateOf h s m c)) (sym (wdt-same (h .pdu) (code c) c)) told-same
+      (finished st n (judgeOf sheet (layoutFor h) st n u))) (fateOf h s m c)) (sym (wdt-same (h .pdu) (code c) c)) told-same
 
-  pub outcome-same : Alike (outcomeOf sheet (layoutFor h) st (commandOf form c)) (fateOf h s m c)
-  outcome-same = subst (λ (x : Command). Alike (outcomeOf sheet (layoutFor h) st x) (fateOf h s m c)) (sym (command-named form c)) named-same
+  pub outcome-same : Alike (outcomeFor sheet (layoutFor h) st c) (fateOf h s m c)
+  outcome-same =
+      subst₂ (λ (x : Command) (u : ℕ). Alike (outcomeOf sheet (layoutFor h) st x u) (fateOf h s m c)) (sym (command-named form c)) (sym (stray-of form (releaseFor h) c)) named-same

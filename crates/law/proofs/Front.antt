@@ -17,19 +17,19 @@ use Rattle.regions.proofs.Spans.{all-before}
 use Rattle.sheet.specs.Entries.{parameterFrom, parameterAt, itemFrom}
 use Rattle.sheet.specs.Kinds.{lengthFits}
 use Rattle.sheet.specs.Reading.{tailOf}
-use Rattle.sheet.specs.Walk.{toleranceIn, layoutOf}
+use Rattle.sheet.specs.Walk.{toleranceIn, releaseIn, layoutOf}
 use Rattle.sheet.specs.Sound.{Sound, behind}
 use Rattle.sheet.specs.declared.entries.Parameter.{Parameter}
 use Rattle.sheet.specs.declared.records.Counts.{Counts}
 use Rattle.sheet.proofs.Steps.{region-there, parameter-there}
 use Rattle.law.specs.Words.{Every, joined, octet}
-use Rattle.law.specs.Sheet.{Item as Ident, Sheet, GoodRegion, GoodParameter, GoodItem, WellFormed, IsOctet, regionOctets, parameterOctets, itemOctets, toleranceOctets, written}
+use Rattle.law.specs.Sheet.{Item as Ident, Sheet, GoodRegion, GoodParameter, GoodItem, GoodRelease, WellFormed, IsOctet, regionOctets, parameterOctets, itemOctets, toleranceOctets, releaseOctets, written}
 use Rattle.law.proofs.Written.{opened}
 use Rattle.law.proofs.Marks.{Marked}
-use Rattle.law.proofs.Layouts.{layoutFor, asArea, asParam, identFrom}
+use Rattle.law.proofs.Layouts.{layoutFor, releaseFor, asArea, asParam, identFrom}
 use Rattle.law.proofs.Links.{pduOf, link-there, form-read, length-there}
 use Rattle.law.proofs.Listed.{every-listed, row-listed, length-listed, all-listed}
-use Rattle.law.proofs.Cuts.{cut-area, cut-param, cut-ident, cut-tolerance, zeros-back, drop-take, grants-has, sum-listed, octet-at, octets-drop, octets-take, listed-none, listed-first}
+use Rattle.law.proofs.Cuts.{cut-area, cut-param, cut-ident, cut-tolerance, cut-release, zeros-back, drop-take, grants-has, sum-listed, octet-at, octets-drop, octets-take, listed-none, listed-first}
 
 -- the sheet that the first records of octets are
 abbrev pub readSheet : List ℕ → Counts → Sheet
@@ -42,6 +42,7 @@ readSheet s so = record {
   parameters = listed (λ (j : ℕ). asParam (parameterAt s (so .regions) j)) 0 (so .parameters);
   items = listed (λ (k : ℕ). identFrom s (4 + 10 * so .regions + 8 * so .parameters + 35 * k)) 0 (so .items);
   tolerances = listed (λ (n : ℕ). getD s (4 + 10 * so .regions + 8 * so .parameters + 35 * so .items + 2 * n + 1) 0) 0 (so .tolerances);
+  releases = listed (λ (n : ℕ). getD s (4 + 10 * so .regions + 8 * so .parameters + 35 * so .items + 2 * so .tolerances + 2 * n + 1) 0) 0 (so .releases);
 }
 
 module _ (s : List ℕ) (octs : Every IsOctet s) where
@@ -85,6 +86,12 @@ module _ (s : List ℕ) (octs : Every IsOctet s) where
       let d = length-drop at s in
       cut-tolerance (drop at s) (od at) (omega arith) (first-of at ∙ k)
       ∙ ap₂ (λ (n : ℕ) (t : List ℕ). toleranceOctets n ++ t) (getD-drop at s 1 0) (drop-drop 2 at s)
+
+  release-cut : (at : ℕ) → at + 2 ≤ length s → getD s at 0 ≡ 7 → drop at s ≡ releaseOctets (getD s (at + 1) 0) ++ drop (at + 2) s
+  release-cut at h k =
+      let d = length-drop at s in
+      cut-release (drop at s) (od at) (omega arith) (first-of at ∙ k)
+      ∙ ap₂ (λ (n : ℕ) (t : List ℕ). releaseOctets n ++ t) (getD-drop at s 1 0) (drop-drop 2 at s)
 
   module _ (so : Counts) (at : ℕ) (ok : Sound s at so) (mk : Marked s at so) (here : at ≡ behind so) (inside : at ≤ length s)
       (fits : lengthFits (getD s 0 0) (getD s 1 0) ≡ true) where
@@ -151,6 +158,13 @@ module _ (s : List ℕ) (octs : Every IsOctet s) where
         (let e : 5 + 10 * so .regions + 8 * so .parameters + 35 * so .items ≡ 4 + 10 * so .regions + 8 * so .parameters + 35 * so .items + 2 * n + 1 = omega arith in e)
         (ok .tolerance-fine (omega arith))
 
+    good-release : (n : ℕ) → n < so .releases → GoodRelease (getD s (4 + 10 * so .regions + 8 * so .parameters + 35 * so .items + 2 * so .tolerances + 2 * n + 1) 0)
+    good-release n h =
+        let few = ok .few-releases in
+        subst (λ (i : ℕ). GoodRelease (getD s i 0))
+        (let e : 5 + 10 * so .regions + 8 * so .parameters + 35 * so .items + 2 * so .tolerances ≡ 4 + 10 * so .regions + 8 * so .parameters + 35 * so .items + 2 * so .tolerances + 2 * n + 1 = omega arith in e)
+        (ok .release-fine (omega arith))
+
     pub front-good : WellFormed (readSheet s so)
     front-good =
         let r = so .regions in
@@ -170,7 +184,9 @@ module _ (s : List ℕ) (octs : Every IsOctet s) where
           few-parameters = rw (length-listed (λ (j : ℕ). asParam (parameterAt s r j)) 0 p) (ok .few-parameters);
           few-items = rw (length-listed (λ (j : ℕ). identFrom s (4 + 10 * r + 8 * p + 35 * j)) 0 k) (ok .few-items);
           tolerances = every-listed _ (λ n. n ≤ 3) 0 (so .tolerances) (λ i l u. good-tolerance i (omega arith));
+          releases = every-listed _ GoodRelease 0 (so .releases) (λ i l u. good-release i (omega arith));
           once = rw (length-listed (λ (n : ℕ). getD s (4 + 10 * r + 8 * p + 35 * k + 2 * n + 1) 0) 0 (so .tolerances)) (ok .few-tolerances);
+          picked-once = rw (length-listed (λ (n : ℕ). getD s (4 + 10 * r + 8 * p + 35 * k + 2 * so .tolerances + 2 * n + 1) 0) 0 (so .releases)) (ok .few-releases);
         }
 
     pub front-written : s ≡ written (readSheet s so) (drop at s)
@@ -179,35 +195,52 @@ module _ (s : List ℕ) (octs : Every IsOctet s) where
         let r = so .regions in
         let p = so .parameters in
         let k = so .items in
+        let q = so .tolerances in
         let a : drop 4 s ≡ joined regionOctets (readSheet s so .regions) ++ drop (4 + 10 * r) s =
         all-listed _ regionOctets s 4 10 r (λ i h. area-cut (4 + 10 * i) (omega arith) (mk .regions i h)) in
         let b : drop (4 + 10 * r) s ≡ joined parameterOctets (readSheet s so .parameters) ++ drop (4 + 10 * r + 8 * p) s =
         all-listed _ parameterOctets s (4 + 10 * r) 8 p (λ i h. param-cut (4 + 10 * r + 8 * i) (omega arith) (mk .parameters i h)) in
         let c : drop (4 + 10 * r + 8 * p) s ≡ joined itemOctets (readSheet s so .items) ++ drop (4 + 10 * r + 8 * p + 35 * k) s =
         all-listed _ itemOctets s (4 + 10 * r + 8 * p) 35 k (λ i h. ident-cut (4 + 10 * r + 8 * p + 35 * i) (omega arith) (mk .items i h .0)) in
-        let d : drop (4 + 10 * r + 8 * p + 35 * k) s ≡ joined toleranceOctets (readSheet s so .tolerances) ++ drop (behind so) s =
-        all-listed _ toleranceOctets s (4 + 10 * r + 8 * p + 35 * k) 2 (so .tolerances)
-        (λ i h. tolerance-cut (4 + 10 * r + 8 * p + 35 * k + 2 * i) (omega arith) (mk .tolerances i h)) in
+        let d : drop (4 + 10 * r + 8 * p + 35 * k) s ≡ joined toleranceOctets (readSheet s so .tolerances) ++ drop (4 + 10 * r + 8 * p + 35 * k + 2 * q) s =
+        all-listed _ toleranceOctets s (4 + 10 * r + 8 * p + 35 * k) 2 q (λ i h. tolerance-cut (4 + 10 * r + 8 * p + 35 * k + 2 * i) (omega arith) (mk .tolerances i h)) in
+        let f : drop (4 + 10 * r + 8 * p + 35 * k + 2 * q) s ≡ joined releaseOctets (readSheet s so .releases) ++ drop (behind so) s =
+        all-listed _ releaseOctets s (4 + 10 * r + 8 * p + 35 * k + 2 * q) 2 (so .releases)
+        (λ i h. release-cut (4 + 10 * r + 8 * p + 35 * k + 2 * q + 2 * i) (omega arith) (mk .releases i h)) in
         let e : drop (behind so) s ≡ drop at s = ap (λ (i : ℕ). drop i s) (sym here) in
         opened s 0 4 (omega arith)
         ∙ ap₂ (λ (x : ℕ) (t : List ℕ). x ∷ getD s 1 0 ∷ getD s 2 0 ∷ getD s 3 0 ∷ t) (link-there (getD s 0 0) (mk .link (omega arith)))
         (a ∙ ap (λ (t : List ℕ). joined regionOctets (readSheet s so .regions) ++ t)
         (b ∙ ap (λ (t : List ℕ). joined parameterOctets (readSheet s so .parameters) ++ t)
         (c ∙ ap (λ (t : List ℕ). joined itemOctets (readSheet s so .items) ++ t)
-        (d ∙ ap (λ (t : List ℕ). joined toleranceOctets (readSheet s so .tolerances) ++ t) e))))
+        (d ∙ ap (λ (t : List ℕ). joined toleranceOctets (readSheet s so .tolerances) ++ t)
+        (f ∙ ap (λ (t : List ℕ). joined releaseOctets (readSheet s so .releases) ++ t) e)))))
 
     tolerance-read : toleranceIn s so ≡ octet (readSheet s so .tolerances) 0
     unfolding toleranceIn
     tolerance-read =
         let g : ℕ → ℕ = λ n. getD s (4 + 10 * so .regions + 8 * so .parameters + 35 * so .items + 2 * n + 1) 0 in
         ⊎-elim
-        (λ (z : so .tolerances ≡ 0). pick-eq _ _ z ∙ sym (ap (λ (n : ℕ). octet (listed g 0 n) 0) z ∙ listed-none g))
+        (λ (z : so .tolerances ≡ 0). pick-eq _ _ z ∙ sym (ap (λ (n : ℕ). octet (listed g 0 n) 0) z ∙ listed-none g 0))
         (λ (z : so .tolerances ≡ 0 → ⊥).
         pick-ne _ _ z
         ∙ ap (λ (i : ℕ). getD s i 0)
         (let e : 5 + 10 * so .regions + 8 * so .parameters + 35 * so .items ≡ 4 + 10 * so .regions + 8 * so .parameters + 35 * so .items + 2 * 0 + 1 = omega arith in e)
-        ∙ sym (listed-first g (so .tolerances) (omega arith)))
+        ∙ sym (listed-first g (so .tolerances) 0 (omega arith)))
         (eq-or-ne (so .tolerances) 0)
+
+    release-read : releaseIn s so ≡ releaseFor (readSheet s so)
+    unfolding releaseIn
+    release-read =
+        let b = 4 + 10 * so .regions + 8 * so .parameters + 35 * so .items + 2 * so .tolerances in
+        let g : ℕ → ℕ = λ n. getD s (b + 2 * n + 1) 0 in
+        ⊎-elim
+        (λ (z : so .releases ≡ 0). pick-eq _ _ z ∙ sym (ap (λ (n : ℕ). getD (listed g 0 n) 0 1) z ∙ listed-none g 1))
+        (λ (z : so .releases ≡ 0 → ⊥).
+        pick-ne _ _ z
+        ∙ ap (λ (i : ℕ). getD s i 0) (let e : 5 + 10 * so .regions + 8 * so .parameters + 35 * so .items + 2 * so .tolerances ≡ b + 2 * 0 + 1 = omega arith in e)
+        ∙ sym (listed-first g (so .releases) 1 (omega arith)))
+        (eq-or-ne (so .releases) 0)
 
     pub layout-read : layoutOf s so ≡ layoutFor (readSheet s so)
     unfolding layoutOf
@@ -219,6 +252,9 @@ module _ (s : List ℕ) (octs : Every IsOctet s) where
         let b = sym (length-listed (λ (j : ℕ). asParam (parameterAt s r j)) 0 p) in
         let c = sym (length-listed (λ (j : ℕ). identFrom s (4 + 10 * r + 8 * p + 35 * j)) 0 k) in
         let t = sym (length-listed (λ (n : ℕ). getD s (4 + 10 * r + 8 * p + 35 * k + 2 * n + 1) 0) 0 (so .tolerances)) in
+        let q = so .tolerances in
+        let n = sym (length-listed (λ (n : ℕ). getD s (4 + 10 * r + 8 * p + 35 * k + 2 * q + 2 * n + 1) 0) 0 (so .releases)) in
         let v = tolerance-read in
+        let w = release-read in
         let m = ok .memory-sum ∙ sym (sum-listed (regionAt s) 0 r) in
-        λ i. record { form = form-read (getD s 0 0) i; l = getD s 1 0; version = getD s 2 0; profile = getD s 3 0; regions = a i; parameters = b i; items = c i; tolerances = t i; tolerance = v i; memory = m i }
+        λ i. record { form = form-read (getD s 0 0) i; l = getD s 1 0; version = getD s 2 0; profile = getD s 3 0; regions = a i; parameters = b i; items = c i; tolerances = t i; tolerance = v i; releases = n i; release = w i; memory = m i }

@@ -24,6 +24,7 @@ pub mod Held
 pub mod Fields
 pub mod World
 pub mod Rows
+pub mod Zeros
 pub mod Codes
 pub mod EnhancedRows
 pub mod ShortRows

@@ -12,7 +12,7 @@ use Rattle.octets.specs.Parts.{allZero}
 use Rattle.octets.proofs.Cases.{eq-or-ne}
 use Rattle.octets.proofs.Pick.{passed, pick-yes, pick-no, pick-eq, pick-ne}
 use Rattle.sheet.specs.Kinds.{isKind, isLink, misplacedOf}
-use Rattle.sheet.specs.Reading.{linkOf, regionOf, parameterOf, itemOf, toleranceOf, bodyOf, recordOf, tailOf}
+use Rattle.sheet.specs.Reading.{linkOf, regionOf, parameterOf, itemOf, toleranceOf, releaseOf, bodyOf, recordOf, tailOf}
 use Rattle.sheet.specs.Sound.{Standing, behind}
 use Rattle.sheet.specs.Walk.{none, placeOf, endedOf, onward, walkOf}
 use Rattle.sheet.specs.declared.records.Counts.{Counts}
@@ -21,7 +21,7 @@ use Rattle.sheet.specs.declared.records.Reading.{Reading}
 use Rattle.sheet.specs.declared.records.Reading.the-variants.{Record, Bad}
 use Rattle.sheet.specs.declared.walk.Verdict.{Verdict}
 use Rattle.sheet.specs.declared.walk.Verdict.the-variants.{Faulty}
-use Rattle.sheet.proofs.Judged.{bad-record, same-counts, region-read, parameter-read, item-read, tolerance-read}
+use Rattle.sheet.proofs.Judged.{bad-record, same-counts, region-read, parameter-read, item-read, tolerance-read, release-read}
 use Rattle.sheet.proofs.Onward.{in-place, last-kind, link-begins, record-sound}
 use Rattle.sheet.proofs.Steps.{one-more}
 use Rattle.sheet.proofs.Walked.{standing-behind}
@@ -33,6 +33,7 @@ pub record Marked (s : List ℕ) (at : ℕ) (so : Counts) : Type 0 where
   pub items : (k : ℕ) → k < so .items
       → (getD s (4 + 10 * so .regions + 8 * so .parameters + 35 * k) 0 ≡ 4) × (allZero (tailOf (drop (4 + 10 * so .regions + 8 * so .parameters + 35 * k) s)) ≡ true)
   pub tolerances : (n : ℕ) → n < so .tolerances → getD s (4 + 10 * so .regions + 8 * so .parameters + 35 * so .items + 2 * n) 0 ≡ 6
+  pub releases : (n : ℕ) → n < so .releases → getD s (4 + 10 * so .regions + 8 * so .parameters + 35 * so .items + 2 * so .tolerances + 2 * n) 0 ≡ 7
 
 module _ (s rest : List ℕ) (so : Counts) (n : ℕ) (next : Counts) (st : Standing s rest so) (mk : Marked s (placeOf s rest) so) where
   -- the octet at the walk's place
@@ -52,6 +53,7 @@ module _ (s rest : List ℕ) (so : Counts) (n : ℕ) (next : Counts) (st : Stand
         parameters = λ i h. absurd (let k : ⊥ = omega arith in k);
         items = λ i h. absurd (let k : ⊥ = omega arith in k);
         tolerances = λ i h. absurd (let k : ⊥ = omega arith in k);
+        releases = λ i h. absurd (let k : ⊥ = omega arith in k);
       })
 
   module _ (at : placeOf s rest ≡ behind so) (m : misplacedOf false (getD rest 0 0) so ≡ false) where
@@ -59,7 +61,7 @@ module _ (s rest : List ℕ) (so : Counts) (n : ℕ) (next : Counts) (st : Stand
     linked h = mk .link (omega arith)
 
     later-marked : (getD rest 0 0 ≡ 0 → ⊥) → isKind (getD rest 0 0) ≡ true → bodyOf (getD rest 0 0) s rest so ≡ Record n next → Marked s (placeOf s rest + n) next
-    unfolding bodyOf regionOf parameterOf itemOf toleranceOf
+    unfolding bodyOf regionOf parameterOf itemOf toleranceOf releaseOf
     later-marked n₀ known body =
         let o = in-place (getD rest 0 0) so m in
         let n₁ = o .0 in
@@ -67,36 +69,35 @@ module _ (s rest : List ℕ) (so : Counts) (n : ℕ) (next : Counts) (st : Stand
         ⊎-elim
         (λ (k₂ : getD rest 0 0 ≡ 2).
         let q = region-read _ _ so n next (sym (pick-eq _ _ k₂) ∙ b) in
-        let np = o .1 k₂ in
-        let nk = o .2 k₂ in
-        let nt = o .3 k₂ in
+        let none-behind = o .1 k₂ in
         let e : 4 + 10 * so .regions ≡ placeOf s rest = omega arith in
         subst (λ (c : Counts). Marked s (placeOf s rest + n) c) (q .counts) (record {
           link = linked;
           regions = one-more (λ i. getD s (4 + 10 * i) 0 ≡ 2) (so .regions) (mk .regions) (ap (λ (i : ℕ). getD s i 0) e ∙ here ∙ k₂);
-          parameters = λ j h. absurd (let k : ⊥ = omega (arith, np) in k);
-          items = λ j h. absurd (let k : ⊥ = omega (arith, nk) in k);
-          tolerances = λ j h. absurd (let k : ⊥ = omega (arith, nt) in k);
+          parameters = λ j h. absurd (let k : ⊥ = omega (arith, none-behind) in k);
+          items = λ j h. absurd (let k : ⊥ = omega (arith, none-behind) in k);
+          tolerances = λ j h. absurd (let k : ⊥ = omega (arith, none-behind) in k);
+          releases = λ j h. absurd (let k : ⊥ = omega (arith, none-behind) in k);
         }))
         (λ n₂.
         ⊎-elim
         (λ (k₃ : getD rest 0 0 ≡ 3).
         let q = parameter-read _ _ _ so n next (sym (pick-ne _ _ n₂ ∙ pick-eq _ _ k₃) ∙ b) in
-        let nk = o .4 k₃ in
-        let nt = o .5 k₃ in
+        let none-behind = o .2 k₃ in
         let e : 4 + 10 * so .regions + 8 * so .parameters ≡ placeOf s rest = omega arith in
         subst (λ (c : Counts). Marked s (placeOf s rest + n) c) (q .counts) (record {
           link = linked;
           regions = mk .regions;
           parameters = one-more (λ j. getD s (4 + 10 * so .regions + 8 * j) 0 ≡ 3) (so .parameters) (mk .parameters) (ap (λ (i : ℕ). getD s i 0) e ∙ here ∙ k₃);
-          items = λ j h. absurd (let k : ⊥ = omega (arith, nk) in k);
-          tolerances = λ j h. absurd (let k : ⊥ = omega (arith, nt) in k);
+          items = λ j h. absurd (let k : ⊥ = omega (arith, none-behind) in k);
+          tolerances = λ j h. absurd (let k : ⊥ = omega (arith, none-behind) in k);
+          releases = λ j h. absurd (let k : ⊥ = omega (arith, none-behind) in k);
         }))
         (λ (n₃ : getD rest 0 0 ≡ 3 → ⊥).
         ⊎-elim
         (λ (k₄ : getD rest 0 0 ≡ 4).
         let q = item-read _ _ _ so n next (sym (pick-ne _ _ n₂ ∙ pick-ne _ _ n₃ ∙ pick-eq _ _ k₄) ∙ b) in
-        let nt = o .6 k₄ in
+        let none-behind = o .3 k₄ in
         let e : placeOf s rest ≡ 4 + 10 * so .regions + 8 * so .parameters + 35 * so .items = omega arith in
         subst (λ (c : Counts). Marked s (placeOf s rest + n) c) (q .counts) (record {
           link = linked;
@@ -107,12 +108,14 @@ module _ (s rest : List ℕ) (so : Counts) (n : ℕ) (next : Counts) (st : Stand
                 ap (λ (i : ℕ). getD s i 0) (sym e) ∙ here ∙ k₄,
                 ap (λ (l : List ℕ). allZero (tailOf l)) (ap (λ (i : ℕ). drop i s) (sym e) ∙ sym (st .part)) ∙ q .zeros,
               );
-          tolerances = λ j h. absurd (let k : ⊥ = omega (arith, nt) in k);
+          tolerances = λ j h. absurd (let k : ⊥ = omega (arith, none-behind) in k);
+          releases = λ j h. absurd (let k : ⊥ = omega (arith, none-behind) in k);
         }))
         (λ (n₄ : getD rest 0 0 ≡ 4 → ⊥).
-        let k₆ = last-kind (getD rest 0 0) known n₀ n₁ n₂ n₃ n₄ in
-        let q = tolerance-read _ so n next (sym (pick-ne _ _ n₂ ∙ pick-ne _ _ n₃ ∙ pick-ne _ _ n₄) ∙ b) in
-        let nt = o .7 k₆ in
+        ⊎-elim
+        (λ (k₆ : getD rest 0 0 ≡ 6).
+        let q = tolerance-read _ so n next (sym (pick-ne _ _ n₂ ∙ pick-ne _ _ n₃ ∙ pick-ne _ _ n₄ ∙ pick-eq _ _ k₆) ∙ b) in
+        let none-behind = o .4 k₆ in
         let e : placeOf s rest ≡ 4 + 10 * so .regions + 8 * so .parameters + 35 * so .items = omega arith in
         subst (λ (c : Counts). Marked s (placeOf s rest + n) c) (q .counts) (record {
           link = linked;
@@ -122,7 +125,24 @@ module _ (s rest : List ℕ) (so : Counts) (n : ℕ) (next : Counts) (st : Stand
           tolerances = λ j h.
               ap (λ (i : ℕ). getD s i 0) (let z : 4 + 10 * so .regions + 8 * so .parameters + 35 * so .items + 2 * j ≡ placeOf s rest = omega arith in z)
               ∙ here ∙ k₆;
+          releases = λ j h. absurd (let k : ⊥ = omega (arith, none-behind) in k);
         }))
+        (λ (n₆ : getD rest 0 0 ≡ 6 → ⊥).
+        let k₇ = last-kind (getD rest 0 0) known n₀ n₁ n₂ n₃ n₄ n₆ in
+        let q = release-read _ so n next (sym (pick-ne _ _ n₂ ∙ pick-ne _ _ n₃ ∙ pick-ne _ _ n₄ ∙ pick-ne _ _ n₆) ∙ b) in
+        let none-behind = o .5 k₇ in
+        subst (λ (c : Counts). Marked s (placeOf s rest + n) c) (q .counts) (record {
+          link = linked;
+          regions = mk .regions;
+          parameters = mk .parameters;
+          items = mk .items;
+          tolerances = mk .tolerances;
+          releases = λ j h.
+              ap (λ (i : ℕ). getD s i 0)
+              (let z : 4 + 10 * so .regions + 8 * so .parameters + 35 * so .items + 2 * so .tolerances + 2 * j ≡ placeOf s rest = omega arith in z)
+              ∙ here ∙ k₇;
+        }))
+        (eq-or-ne (getD rest 0 0) 6))
         (eq-or-ne (getD rest 0 0) 4))
         (eq-or-ne (getD rest 0 0) 3))
         (eq-or-ne (getD rest 0 0) 2)

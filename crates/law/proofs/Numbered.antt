@@ -10,8 +10,8 @@ use Rattle.sheet.specs.declared.records.Fault.{Fault}
 use Rattle.sheet.specs.declared.records.Fault.the-variants.{Ended, Unknown, Misplaced, Range, Disorder, Excess, Unmapped}
 use Rattle.sheet.specs.declared.walk.Verdict.the-variants.{Faulty}
 use Rattle.law.specs.Words.{Every}
-use Rattle.law.specs.Sheet.{Region as Area, Parameter as Param, Item as Ident, IsOctet, regionOctets, parameterOctets, itemOctets, toleranceOctets}
-use Rattle.law.specs.Faults.{Sofar, nothing, records, RegionFault, ParameterFault, ItemFault, BodyFault, RecordFault, AfterEnd, FaultAt, FirstFault, ToleranceFault}
+use Rattle.law.specs.Sheet.{Region as Area, Parameter as Param, Item as Ident, IsOctet, regionOctets, parameterOctets, itemOctets, toleranceOctets, releaseOctets}
+use Rattle.law.specs.Faults.{Sofar, nothing, records, RegionFault, ParameterFault, ItemFault, BodyFault, RecordFault, AfterEnd, FaultAt, FirstFault, ToleranceFault, ReleaseFault}
 use Rattle.law.proofs.Exact.{told-fault}
 
 abbrev Known : ℕ → Type 0
@@ -64,7 +64,9 @@ body-known (records h) rest n c =
     (⊎-elim
     (λ (a : (i : Ident) × (t : List ℕ) × (rest ≡ itemOctets i ++ t) × (length (i .octets) ≡ 32) × ItemFault h i n).
     known fourteen (known sixteen (known fifteen none)) (a .4))
-    (λ (a : (x : ℕ) × (t : List ℕ) × (rest ≡ toleranceOctets x ++ t) × ToleranceFault x n). known fourteen none (a .3))))
+    (⊎-elim
+    (λ (a : (x : ℕ) × (t : List ℕ) × (rest ≡ toleranceOctets x ++ t) × ToleranceFault x n). known fourteen none (a .3))
+    (λ (a : (x : ℕ) × (t : List ℕ) × (rest ≡ releaseOctets x ++ t) × ReleaseFault x n). known fourteen none (a .3)))))
     c
 
 record-known : (x : Sofar) (rest : List ℕ) (n : ℕ) → RecordFault x rest n → Known n

@@ -4,7 +4,7 @@ use mathlib.Core.List.{List, [], _∷_, _++_}
 use Prim.Native.Nat.{ℕ, _%_, _/_, _<_, _≤_}
 use native.Mathlib.Omega.{arith}
 use Rattle.law.specs.Words.{Every, joined, inOctets}
-use Rattle.law.specs.Sheet.{Region, Parameter, Item, Sheet, regionOctets, parameterOctets, itemOctets, sheetOctets, FiveLengths, IsOctet, GoodRegion, GoodParameter, GoodItem, WellFormed, toleranceOctets}
+use Rattle.law.specs.Sheet.{Region, Parameter, Item, Sheet, regionOctets, parameterOctets, itemOctets, sheetOctets, FiveLengths, IsOctet, GoodRegion, GoodParameter, GoodItem, GoodRelease, WellFormed, toleranceOctets, releaseOctets}
 use Rattle.law.proofs.Links.{kind-octet, good-five}
 
 both : (xs t : List ℕ) → Every IsOctet xs → Every IsOctet t → Every IsOctet (xs ++ t)
@@ -45,6 +45,9 @@ item-octets i g =
 tolerance-octets : (n : ℕ) → n ≤ 3 → Every IsOctet (toleranceOctets n)
 tolerance-octets n l = (small 6 7 (omega arith) (omega arith), (omega arith, tt))
 
+release-octets : (n : ℕ) → GoodRelease n → Every IsOctet (releaseOctets n)
+release-octets n g = (small 7 8 (omega arith) (omega arith), (omega (arith, g .1), tt))
+
 five : (l : ℕ) → FiveLengths l → IsOctet l
 five l e =
     ⊎-elim (λ a. omega arith)
@@ -53,9 +56,11 @@ five l e =
 pub in-octets : (h : Sheet) → WellFormed h → Every IsOctet (sheetOctets h)
 in-octets h w =
     let end : List ℕ = 0 ∷ [] in
-    let tt′ : List ℕ = joined toleranceOctets (h .tolerances) ++ end in
+    let tr : List ℕ = joined releaseOctets (h .releases) ++ end in
+    let tt′ : List ℕ = joined toleranceOctets (h .tolerances) ++ tr in
     let ti : List ℕ = joined itemOctets (h .items) ++ tt′ in
-    let tolerances = both (joined toleranceOctets (h .tolerances)) end (all toleranceOctets (λ n. n ≤ 3) tolerance-octets (h .tolerances) (w .tolerances)) (small 0 1 (omega arith) (omega arith), tt) in
+    let releases = both (joined releaseOctets (h .releases)) end (all releaseOctets GoodRelease release-octets (h .releases) (w .releases)) (small 0 1 (omega arith) (omega arith), tt) in
+    let tolerances = both (joined toleranceOctets (h .tolerances)) tr (all toleranceOctets (λ n. n ≤ 3) tolerance-octets (h .tolerances) (w .tolerances)) releases in
     let items = both (joined itemOctets (h .items)) tt′ (all itemOctets GoodItem item-octets (h .items) (w .items)) tolerances in
     let parameters = both (joined parameterOctets (h .parameters)) ti (all parameterOctets (GoodParameter (h .regions)) (parameter-octets (h .regions)) (h .parameters) (w .parameters)) items in
     let regions = both (joined regionOctets (h .regions)) (joined parameterOctets (h .parameters) ++ ti) (all regionOctets GoodRegion region-octets (h .regions) (w .regions)) parameters in

@@ -7,7 +7,7 @@ use lib.ListN.{length, getD, take, drop}
 use lib.Seq.{take-at, drop-at}
 use Rattle.octets.specs.Numbers.{le2At, le4At}
 use Rattle.law.specs.Words.{Every, joined}
-use Rattle.law.specs.Sheet.{Region as Area, Parameter as Param, Item as Ident, Sheet, GoodRegion, GoodParameter, GoodItem, WellFormed, regionOctets, parameterOctets, itemOctets, toleranceOctets, sheetOctets}
+use Rattle.law.specs.Sheet.{Region as Area, Parameter as Param, Item as Ident, Sheet, GoodRegion, GoodParameter, GoodItem, GoodRelease, WellFormed, regionOctets, parameterOctets, itemOctets, toleranceOctets, releaseOctets, sheetOctets}
 use Rattle.law.proofs.Links.{pduOf, kind-pdu}
 use Rattle.law.proofs.Written.{le2-back, le4-back}
 
@@ -37,6 +37,9 @@ ident-once a b t u g h e =
 
 tolerance-once : (a b : ℕ) (t u : List ℕ) → a ≤ 3 → b ≤ 3 → toleranceOctets a ++ t ≡ toleranceOctets b ++ u → (a ≡ b) × (t ≡ u)
 tolerance-once a b t u g h e = (ap (λ (l : List ℕ). getD l 1 0) e, ap (drop 2) e)
+
+release-once : (a b : ℕ) (t u : List ℕ) → GoodRelease a → GoodRelease b → releaseOctets a ++ t ≡ releaseOctets b ++ u → (a ≡ b) × (t ≡ u)
+release-once a b t u g h e = (ap (λ (l : List ℕ). getD l 1 0) e, ap (drop 2) e)
 
 -- the octet that a list begins with
 abbrev first : List ℕ → ℕ
@@ -72,14 +75,18 @@ exceeds a b l e = omega arith
 pub one-sheet : (a b : Sheet) → WellFormed a → WellFormed b → sheetOctets a ≡ sheetOctets b → a ≡ b
 one-sheet a b v w e =
     let end : List ℕ = 0 ∷ [] in
-    let tt : Sheet → List ℕ = λ x. joined toleranceOctets (x .tolerances) ++ end in
+    let tr : Sheet → List ℕ = λ x. joined releaseOctets (x .releases) ++ end in
+    let tt : Sheet → List ℕ = λ x. joined toleranceOctets (x .tolerances) ++ tr x in
     let ti : Sheet → List ℕ = λ x. joined itemOctets (x .items) ++ tt x in
     let tp : Sheet → List ℕ = λ x. joined parameterOctets (x .parameters) ++ ti x in
-    let t6 : (x : Sheet) (k : ℕ) → 0 < k → (6 ≡ k → ⊥) → first (tt x) ≡ k → ⊥ =
-    λ x k l n. not-first toleranceOctets 6 (λ y t. refl) (x .tolerances) end k n (differs 0 k l) in
-    let t4 : (x : Sheet) → first (tt x) ≡ 4 → ⊥ = λ x. t6 x 4 (omega arith) (exceeds 6 4 (omega arith)) in
+    let r7 : (x : Sheet) (k : ℕ) → 0 < k → k < 7 → first (tr x) ≡ k → ⊥ =
+    λ x k l u. not-first releaseOctets 7 (λ y t. refl) (x .releases) end k (exceeds 7 k u) (differs 0 k l) in
+    let r6 : (x : Sheet) → first (tr x) ≡ 6 → ⊥ = λ x. r7 x 6 (omega arith) (omega arith) in
+    let t6 : (x : Sheet) (k : ℕ) → 0 < k → k < 6 → first (tt x) ≡ k → ⊥ =
+    λ x k l u. not-first toleranceOctets 6 (λ y t. refl) (x .tolerances) (tr x) k (exceeds 6 k u) (r7 x k l (omega arith)) in
+    let t4 : (x : Sheet) → first (tt x) ≡ 4 → ⊥ = λ x. t6 x 4 (omega arith) (omega arith) in
     let i4 : (x : Sheet) (k : ℕ) → 0 < k → k < 6 → (4 ≡ k → ⊥) → first (ti x) ≡ k → ⊥ =
-    λ x k l u n. not-first itemOctets 4 (λ y t. refl) (x .items) (tt x) k n (t6 x k l (exceeds 6 k u)) in
+    λ x k l u n. not-first itemOctets 4 (λ y t. refl) (x .items) (tt x) k n (t6 x k l u) in
     let p2 : (x : Sheet) → first (tp x) ≡ 2 → ⊥ =
     λ x. not-first parameterOctets 3 (λ y t. refl) (x .parameters) (ti x) 2 (exceeds 3 2 (omega arith)) (i4 x 2 (omega arith) (omega arith) (exceeds 4 2 (omega arith))) in
     let p3 : (x : Sheet) → first (ti x) ≡ 3 → ⊥ = λ x. i4 x 3 (omega arith) (omega arith) (exceeds 4 3 (omega arith)) in
@@ -87,10 +94,12 @@ one-sheet a b v w e =
     let p = all-once parameterOctets 3 (λ y t. refl) (GoodParameter (a .regions)) (GoodParameter (b .regions)) (param-once (a .regions) (b .regions))
     (a .parameters) (b .parameters) (ti a) (ti b) (v .parameters) (w .parameters) (p3 a) (p3 b) (r .1) in
     let k = all-once itemOctets 4 (λ y t. refl) GoodItem GoodItem ident-once (a .items) (b .items) (tt a) (tt b) (v .items) (w .items) (t4 a) (t4 b) (p .1) in
-    let q = all-once toleranceOctets 6 (λ y t. refl) (λ n. n ≤ 3) (λ n. n ≤ 3) tolerance-once (a .tolerances) (b .tolerances) end end (v .tolerances) (w .tolerances)
-    (differs 0 6 (omega arith)) (differs 0 6 (omega arith)) (k .1) in
+    let q = all-once toleranceOctets 6 (λ y t. refl) (λ n. n ≤ 3) (λ n. n ≤ 3) tolerance-once (a .tolerances) (b .tolerances) (tr a) (tr b) (v .tolerances) (w .tolerances)
+    (r6 a) (r6 b) (k .1) in
+    let f = all-once releaseOctets 7 (λ y t. refl) GoodRelease GoodRelease release-once (a .releases) (b .releases) end end (v .releases) (w .releases)
+    (differs 0 7 (omega arith)) (differs 0 7 (omega arith)) (q .1) in
     let l : a .l ≡ b .l = ap (λ (o : List ℕ). getD o 1 0) e in
     let m : a .version ≡ b .version = ap (λ (o : List ℕ). getD o 2 0) e in
     let n : a .profile ≡ b .profile = ap (λ (o : List ℕ). getD o 3 0) e in
     let d : a .pdu ≡ b .pdu = sym (kind-pdu (a .pdu)) ∙ ap (λ (o : List ℕ). pduOf (getD o 0 0)) e ∙ kind-pdu (b .pdu) in
-    λ i. record { pdu = d i; l = l i; version = m i; profile = n i; regions = r .0 i; parameters = p .0 i; items = k .0 i; tolerances = q .0 i }
+    λ i. record { pdu = d i; l = l i; version = m i; profile = n i; regions = r .0 i; parameters = p .0 i; items = k .0 i; tolerances = q .0 i; releases = f .0 i }

@@ -29,16 +29,17 @@ size-same (suc (suc (suc zero))) h = pick-no _ _ refl ∙ pick-no _ _ refl ∙ p
 size-same (suc (suc (suc (suc zero)))) h = pick-no _ _ refl ∙ pick-no _ _ refl ∙ pick-no _ _ refl ∙ pick-no _ _ refl ∙ pick-yes _ _ refl
 size-same (suc (suc (suc (suc (suc zero))))) h = pick-no _ _ refl ∙ pick-yes _ _ refl
 size-same (suc (suc (suc (suc (suc (suc zero)))))) h = pick-no _ _ refl ∙ pick-no _ _ refl ∙ pick-no _ _ refl ∙ pick-no _ _ refl ∙ pick-no _ _ refl
-size-same (suc (suc (suc (suc (suc (suc (suc n))))))) h = absurd (let w : ⊥ = omega arith in w)
+size-same (suc (suc (suc (suc (suc (suc (suc zero))))))) h = pick-no _ _ refl ∙ pick-no _ _ refl ∙ pick-no _ _ refl ∙ pick-no _ _ refl ∙ pick-no _ _ refl
+size-same (suc (suc (suc (suc (suc (suc (suc (suc n)))))))) h = absurd (let w : ⊥ = omega arith in w)
 
 -- the code's kinds are the paper's
 pub kind-there : (k : ℕ) → isKind k ≡ true → Kind k
 unfolding isKind
-kind-there k e = leb-true k 6 e
+kind-there k e = leb-true k 7 e
 
 pub kind-back : (k : ℕ) → Kind k → isKind k ≡ true
 unfolding isKind
-kind-back k h = le-leb k 6 h
+kind-back k h = le-leb k 7 h
 
 or-both : (a b : Bool) → a ≡ false → b ≡ false → a || b ≡ false
 or-both true b e f = e
@@ -51,24 +52,20 @@ kind-free kind k n h =
     (λ (e : kind ≡ k → ⊥). ap (λ (b : Bool). b && ltb 0 n) (ne-eqb kind k e))
     (eq-or-ne kind k)
 
-pub place-in : (kind : ℕ) (so : Counts) → isLink kind ≡ false → (kind ≡ 2 → so .parameters ≡ 0) → (kind ≡ 2 → so .items ≡ 0) → (kind ≡ 2 → so .tolerances ≡ 0)
-    → (kind ≡ 3 → so .items ≡ 0) → (kind ≡ 3 → so .tolerances ≡ 0) → (kind ≡ 4 → so .tolerances ≡ 0) → (kind ≡ 6 → so .tolerances ≡ 0)
-    → misplacedOf false kind so ≡ false
+pub place-in : (kind : ℕ) (so : Counts) → isLink kind ≡ false → (kind ≡ 2 → so .parameters + so .items + so .tolerances + so .releases ≡ 0)
+    → (kind ≡ 3 → so .items + so .tolerances + so .releases ≡ 0) → (kind ≡ 4 → so .tolerances + so .releases ≡ 0)
+    → (kind ≡ 6 → so .tolerances + so .releases ≡ 0) → (kind ≡ 7 → so .releases ≡ 0) → misplacedOf false kind so ≡ false
 unfolding misplacedOf
-place-in kind so a b c d e f g h =
+place-in kind so a b c d e f =
     or-both _ _
     (or-both _ _
     (or-both _ _
     (or-both _ _
-    (or-both _ _
-    (or-both _ _
-    (or-both _ _ a (kind-free kind 2 (so .parameters) b))
-    (kind-free kind 2 (so .items) c))
-    (kind-free kind 2 (so .tolerances) d))
-    (kind-free kind 3 (so .items) e))
-    (kind-free kind 3 (so .tolerances) f))
-    (kind-free kind 4 (so .tolerances) g))
-    (kind-free kind 6 (so .tolerances) h)
+    (or-both _ _ a (kind-free kind 2 (so .parameters + so .items + so .tolerances + so .releases) b))
+    (kind-free kind 3 (so .items + so .tolerances + so .releases) c))
+    (kind-free kind 4 (so .tolerances + so .releases) d))
+    (kind-free kind 6 (so .tolerances + so .releases) e))
+    (kind-free kind 7 (so .releases) f)
 
 le4-bound : (a b c d : ℕ) → a < 256 → b < 256 → c < 256 → d < 256 → package.Rattle.octets.specs.Numbers.le4 a b c d < 4294967296
 le4-bound a b c d x y z w = omega arith

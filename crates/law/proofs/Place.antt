@@ -1,7 +1,7 @@
 -- The checks before a record's own, and the theorem: what the walk tells of a faulty sheet is what the paper tells.
 use mathlib.Core.Bool.{Bool, true, false, not, true≢false}
 use mathlib.Core.Logic.{inl, inr, ⊎-elim, _↔_}
-use mathlib.Core.Path.{_≡_, refl, sym, ap, subst, _∙_}
+use mathlib.Core.Path.{_≡_, refl, sym, ap, ap₂, subst, _∙_}
 use mathlib.Core.List.{List, _++_}
 use Prim.Native.Nat.{ℕ, _+_, _*_, _≤_, _<_}
 use native.Mathlib.Omega.{arith}
@@ -15,7 +15,7 @@ use Rattle.regions.specs.Region.{regionFrom, regionAt}
 use Rattle.sheet.specs.Entries.{parameterFrom, parameterAt}
 use Rattle.sheet.specs.Faults.{numberOf}
 use Rattle.sheet.specs.Kinds.{isKind, isLink, lengthFits, sizeOf, misplacedOf}
-use Rattle.sheet.specs.Reading.{linkOf, regionOf, parameterOf, itemOf, toleranceOf, bodyOf, recordOf}
+use Rattle.sheet.specs.Reading.{linkOf, regionOf, parameterOf, itemOf, toleranceOf, releaseOf, bodyOf, recordOf}
 use Rattle.sheet.specs.Sound.{Sound}
 use Rattle.sheet.specs.Walk.{none, placeOf, endedOf, verdictOf}
 use Rattle.sheet.specs.declared.records.Counts.{Counts}
@@ -26,13 +26,13 @@ use Rattle.sheet.specs.declared.walk.Layout.{Layout}
 use Rattle.sheet.specs.declared.walk.Verdict.the-variants.{Valid, Faulty}
 use Rattle.sheet.proofs.Onward.{in-place, last-kind, link-begins}
 use Rattle.law.specs.Words.{Every}
-use Rattle.law.specs.Sheet.{PduType, Region as Area, Parameter as Param, Item as Ident, WellFormed, GoodLength, linkKind, IsOctet, regionOctets, parameterOctets, itemOctets, toleranceOctets, written, room}
-use Rattle.law.specs.Faults.{RegionFault, ParameterFault, ItemFault, ToleranceFault, nothing, records, InPlace, recordLength, BodyFault, RecordFault, FirstFault}
+use Rattle.law.specs.Sheet.{PduType, Region as Area, Parameter as Param, Item as Ident, WellFormed, GoodLength, linkKind, IsOctet, regionOctets, parameterOctets, itemOctets, toleranceOctets, releaseOctets, written, room}
+use Rattle.law.specs.Faults.{RegionFault, ParameterFault, ItemFault, ToleranceFault, ReleaseFault, nothing, records, InPlace, recordLength, BodyFault, RecordFault, FirstFault}
 use Rattle.law.proofs.Checks.{decides, passes, no-more, read-no-fault}
 use Rattle.law.proofs.Links.{pduOf, link-back, link-there, no-link, not-link, length-back, length-there}
-use Rattle.law.proofs.RecordFaults.{area-fault, param-fault, ident-fault, tolerance-fault}
+use Rattle.law.proofs.RecordFaults.{area-fault, param-fault, ident-fault, tolerance-fault, release-fault}
 use Rattle.law.proofs.Front.{readSheet, front-good, front-written}
-use Rattle.law.proofs.Cuts.{cut-area, cut-param, cut-ident, cut-tolerance, octet-at, octets-drop, sum-listed}
+use Rattle.law.proofs.Cuts.{cut-area, cut-param, cut-ident, cut-tolerance, cut-release, octet-at, octets-drop, sum-listed}
 use Rattle.law.proofs.Sound.{reached, end-later}
 use Rattle.law.proofs.Layouts.{asArea, asParam, identFrom}
 use Rattle.law.proofs.Listed.{length-listed}
@@ -75,7 +75,7 @@ module _ (s rest : List ℕ) (octs : Every IsOctet rest) (fault : Fault) where
 
     body-there : isKind (getD rest 0 0) ≡ true → isLink (getD rest 0 0) ≡ false → recordLength (getD rest 0 0) ≤ length rest
         → bodyOf (getD rest 0 0) s rest so ≡ Bad fault → BodyFault (records (readSheet s so)) rest (numberOf fault)
-    unfolding bodyOf regionOf parameterOf itemOf toleranceOf
+    unfolding bodyOf regionOf parameterOf itemOf toleranceOf releaseOf
     body-there known n₁ fits w =
         ⊎-elim
         (λ (k : getD rest 0 0 ≡ 0). absurd (read-no-fault (sym (pick-eq _ _ k) ∙ w)))
@@ -120,21 +120,32 @@ module _ (s rest : List ℕ) (octs : Every IsOctet rest) (fault : Fault) where
           ident-fault s so fault memory (good .numbers-rise) rest octs long (good .codes-rise) .0 (sym (past ∙ pick-eq _ _ k) ∙ w),
         ))))
         (λ (n₄ : getD rest 0 0 ≡ 4 → ⊥).
-        let k = last-kind (getD rest 0 0) known n₀ n₁ n₂ n₃ n₄ in
+        ⊎-elim
+        (λ (k : getD rest 0 0 ≡ 6).
         let long : 2 ≤ length rest = subst (λ (j : ℕ). recordLength j ≤ length rest) k fits in
-        inr (inr (inr (
+        inr (inr (inr (inl (
           getD rest 1 0,
           drop 2 rest,
           cut-tolerance rest o long k,
-          tolerance-fault so fault (getD rest 1 0) .0 (sym (past ∙ pick-ne _ _ n₄) ∙ w),
-        ))))
+          tolerance-fault so fault (getD rest 1 0) .0 (sym (past ∙ pick-ne _ _ n₄ ∙ pick-eq _ _ k) ∙ w),
+        )))))
+        (λ (n₆ : getD rest 0 0 ≡ 6 → ⊥).
+        let k = last-kind (getD rest 0 0) known n₀ n₁ n₂ n₃ n₄ n₆ in
+        let long : 2 ≤ length rest = subst (λ (j : ℕ). recordLength j ≤ length rest) k fits in
+        inr (inr (inr (inr (
+          getD rest 1 0,
+          drop 2 rest,
+          cut-release rest o long k,
+          release-fault so fault (getD rest 1 0) .0 (sym (past ∙ pick-ne _ _ n₄ ∙ pick-ne _ _ n₆) ∙ w),
+        )))))
+        (eq-or-ne (getD rest 0 0) 6))
         (eq-or-ne (getD rest 0 0) 4))
         (eq-or-ne (getD rest 0 0) 3))
         (eq-or-ne (getD rest 0 0) 2))
         (eq-or-ne (getD rest 0 0) 0)
 
     body-back : recordLength (getD rest 0 0) ≤ length rest → BodyFault (records (readSheet s so)) rest (numberOf fault) → bodyOf (getD rest 0 0) s rest so ≡ Bad fault
-    unfolding bodyOf regionOf parameterOf itemOf toleranceOf
+    unfolding bodyOf regionOf parameterOf itemOf toleranceOf releaseOf
     body-back fits c =
         let h = readSheet s so in
         let f = region-fits rest o in
@@ -159,11 +170,19 @@ module _ (s rest : List ℕ) (octs : Every IsOctet rest) (fault : Fault) where
         pick-key 0 _ _ k refl ∙ pick-no _ _ (ap isLink k) ∙ pick-key 2 _ _ k refl ∙ pick-key 3 _ _ k refl ∙ pick-eq _ _ k
         ∙ ident-fault s so fault memory (good .numbers-rise) rest octs long (good .codes-rise) .1
         (subst (λ (i : Ident). ItemFault h i (numberOf fault)) (sym e) (x .4)))
+        (⊎-elim
         (λ (x : (n : ℕ) × (t : List ℕ) × (rest ≡ toleranceOctets n ++ t) × ToleranceFault n (numberOf fault)).
         let k : getD rest 0 0 ≡ 6 = ap (λ (l : List ℕ). getD l 0 0) (x .2) in
         let e : getD rest 1 0 ≡ x .0 = ap (λ (l : List ℕ). getD l 1 0) (x .2) in
         pick-key 0 _ _ k refl ∙ pick-no _ _ (ap isLink k) ∙ pick-key 2 _ _ k refl ∙ pick-key 3 _ _ k refl ∙ pick-key 4 _ _ k refl
-        ∙ tolerance-fault so fault (getD rest 1 0) .1 (subst (λ (n : ℕ). ToleranceFault n (numberOf fault)) (sym e) (x .3)))))
+        ∙ pick-eq _ _ k
+        ∙ tolerance-fault so fault (getD rest 1 0) .1 (subst (λ (n : ℕ). ToleranceFault n (numberOf fault)) (sym e) (x .3)))
+        (λ (x : (n : ℕ) × (t : List ℕ) × (rest ≡ releaseOctets n ++ t) × ReleaseFault n (numberOf fault)).
+        let k : getD rest 0 0 ≡ 7 = ap (λ (l : List ℕ). getD l 0 0) (x .2) in
+        let e : getD rest 1 0 ≡ x .0 = ap (λ (l : List ℕ). getD l 1 0) (x .2) in
+        pick-key 0 _ _ k refl ∙ pick-no _ _ (ap isLink k) ∙ pick-key 2 _ _ k refl ∙ pick-key 3 _ _ k refl ∙ pick-key 4 _ _ k refl
+        ∙ pick-key 6 _ _ k refl
+        ∙ release-fault so fault (getD rest 1 0) .1 (subst (λ (n : ℕ). ReleaseFault n (numberOf fault)) (sym e) (x .3))))))
         c
 
     pub later-fault : (length rest ≡ length s → ⊥) → (recordOf s rest so ≡ Bad fault) ↔ RecordFault (records (readSheet s so)) rest (numberOf fault)
@@ -174,6 +193,10 @@ module _ (s rest : List ℕ) (octs : Every IsOctet rest) (fault : Fault) where
         let np = length-listed (λ (j : ℕ). asParam (parameterAt s r j)) 0 (so .parameters) in
         let ni = length-listed (λ (j : ℕ). identFrom s (4 + 10 * r + 8 * so .parameters + 35 * j)) 0 (so .items) in
         let nt = length-listed (λ (n : ℕ). getD s (4 + 10 * r + 8 * so .parameters + 35 * so .items + 2 * n + 1) 0) 0 (so .tolerances) in
+        let nv = length-listed (λ (n : ℕ). getD s (4 + 10 * r + 8 * so .parameters + 35 * so .items + 2 * so .tolerances + 2 * n + 1) 0) 0 (so .releases) in
+        let two = ap₂ _+_ nt nv in
+        let three = ap₂ _+_ (ap₂ _+_ ni nt) nv in
+        let four = ap₂ _+_ (ap₂ _+_ (ap₂ _+_ np ni) nt) nv in
         let t : eqb (length rest) (length s) ≡ false = ne-eqb (length rest) (length s) away in
         decides _ Ended _ refl (λ b q. let l = eqb-true (length rest) 0 b in omega arith) (λ b₁.
         let l = eqb-false (length rest) 0 b₁ in
@@ -184,10 +207,10 @@ module _ (s rest : List ℕ) (octs : Every IsOctet rest) (fault : Fault) where
         (decides _ Misplaced _ refl
         (λ b (q : InPlace (records (readSheet s so)) kind).
         true≢false (sym b ∙ ap (λ (x : Bool). misplacedOf x kind so) t
-        ∙ place-in kind so (not-link kind (q .0)) (λ e. sym np ∙ q .1 e) (λ e. sym ni ∙ q .2 e) (λ e. sym nt ∙ q .3 e) (λ e. sym ni ∙ q .4 e) (λ e. sym nt ∙ q .5 e) (λ e. sym nt ∙ q .6 e) (λ e. sym nt ∙ q .7 e))) (λ b₃.
+        ∙ place-in kind so (not-link kind (q .0)) (λ e. sym four ∙ q .1 e) (λ e. sym three ∙ q .2 e) (λ e. sym two ∙ q .3 e) (λ e. sym two ∙ q .4 e) (λ e. sym nv ∙ q .5 e))) (λ b₃.
         let i = in-place kind so (sym (ap (λ (x : Bool). misplacedOf x kind so) t) ∙ b₃) in
         let size = size-same kind known in
-        passes (no-link kind (i .0), λ e. np ∙ i .1 e, λ e. ni ∙ i .2 e, λ e. nt ∙ i .3 e, λ e. ni ∙ i .4 e, λ e. nt ∙ i .5 e, λ e. nt ∙ i .6 e, λ e. nt ∙ i .7 e)
+        passes (no-link kind (i .0), λ e. four ∙ i .1 e, λ e. three ∙ i .2 e, λ e. two ∙ i .3 e, λ e. two ∙ i .4 e, λ e. nv ∙ i .5 e)
         (decides _ Ended _ refl (λ b q. let k = ltb-true (length rest) (sizeOf kind) b in omega (arith, size, q, k)) (λ b₄.
         let fits : recordLength kind ≤ length rest = let k = ltb-false (length rest) (sizeOf kind) b₄ in omega (arith, size, k) in
         passes fits (body-there (not-false _ b₂) (i .0) fits, body-back fits))))))))

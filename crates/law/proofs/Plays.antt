@@ -12,11 +12,11 @@ use Rattle.octets.specs.Pick.{pick}
 use Rattle.octets.proofs.Cases.{decided, lt-or-le, eq-or-ne}
 use Rattle.octets.proofs.Pick.{pick-lt, pick-ge, pick-eq, pick-ne, pick-differ, pick-same}
 use Rattle.frame.specs.Fields.{commandOf}
+use Rattle.frame.specs.Unnamed.{strayOf}
 use Rattle.link.specs.Stored.{octetsOf, fieldsOf, stateOf}
 use Rattle.link.specs.declared.state.LinkState.{LinkState}
 use Rattle.link.proofs.Facts.{Facts}
 use Rattle.link.proofs.Back.{read-back}
-use Rattle.machine.specs.Outcomes.{outcomeOf}
 use Rattle.machine.proofs.Nexts.{outcome-valid, outcome-on}
 use Rattle.replay.specs.Replay.{Replayed, replayed, onStep, playOf, replayOf}
 use Rattle.replay.specs.Trace.{checkedForm, tracedOf}
@@ -25,7 +25,7 @@ use Rattle.replay.specs.Trace as machine
 use Rattle.slave.specs.declared.answers.Answer.{Answer}
 use Rattle.replay.proofs.Forms.{checked-short}
 use Rattle.replay.proofs.Steps.{is-exchanged}
-use Rattle.slave.specs.Exchange.{exchanged, exchangeOf}
+use Rattle.slave.specs.Exchange.{outcomeFor, exchanged, exchangeOf}
 use Rattle.slave.specs.Wanted.{differsAt, steppedOf}
 use Rattle.slave.proofs.Differs.{differs-most}
 use Rattle.slave.proofs.Order.{on-valid, on-invalid, on-state}
@@ -43,7 +43,7 @@ use Rattle.law.proofs.Complete.{complete}
 use Rattle.law.proofs.Worlds.{few-first}
 use Rattle.law.proofs.Held.{length-cells, stored-length}
 use Rattle.law.proofs.Laid.{when-yes, when-no}
-use Rattle.law.proofs.Layouts.{formFor, layoutFor}
+use Rattle.law.proofs.Layouts.{formFor, releaseFor, layoutFor}
 use Rattle.law.proofs.Spans.{when-pick}
 use Rattle.law.proofs.Traces.{asTraced, form-clean, form-faulty, form-records}
 
@@ -81,14 +81,15 @@ module _ (h : Sheet) (w : WellFormed h) where
     next-ready : Ready (after .state) (after .memory)
     unfolding exchanged
     next-ready =
-        let o = outcomeOf (sheetOctets h) (layoutFor h) (ready .st) (commandOf (formFor (h .pdu)) c) in
+        let o = outcomeFor (sheetOctets h) (layoutFor h) (ready .st) c in
+        let u = strayOf (formFor (h .pdu)) (releaseFor h) c in
         let one = some (ready .st .link) (ready .on) in
-        let there = outcome-on (sheetOctets h) (layoutFor h) (ready .st) (commandOf (formFor (h .pdu)) c) (h .l) (ready .facts) one in
+        let there = outcome-on (sheetOctets h) (layoutFor h) (ready .st) (commandOf (formFor (h .pdu)) c) u (h .l) (ready .facts) one in
         let fit = ready .whole ∙ sym (length-cells (h .regions)) in
         record {
           st = o .next;
           record-of = sym (ap (λ (x : Result). x .state) is-done);
-          facts = outcome-valid (sheetOctets h) (layoutFor h) (ready .st) (commandOf (formFor (h .pdu)) c) (h .l) (ready .facts) one (omega (arith, few-first (h .tolerances) (w .tolerances)));
+          facts = outcome-valid (sheetOctets h) (layoutFor h) (ready .st) (commandOf (formFor (h .pdu)) c) u (h .l) (ready .facts) one (omega (arith, few-first (h .tolerances) (w .tolerances)));
           on = λ z. let k : ⊥ = omega arith in k;
           whole = stored-length (fateOf h s m c .stores) (cells (h .regions)) m fit ∙ ready .whole;
         }

@@ -20,16 +20,16 @@ use Rattle.regions.specs.declared.Right.the-variants.{Mapped}
 use Rattle.regions.proofs.Bounds.{bounds-hold}
 use Rattle.regions.proofs.Spans.{before-all}
 use Rattle.sheet.specs.Entries.{parameterFrom, parameterAt, itemFrom, itemAt}
-use Rattle.sheet.specs.Judging.{judgedRegion, judgedParameter, judgedItem, judgedTolerance}
+use Rattle.sheet.specs.Judging.{judgedRegion, judgedParameter, judgedItem, judgedTolerance, judgedRelease}
 use Rattle.sheet.specs.Kinds.{isKind, sizeOf, misplacedOf, endBefore, leastNumber, leastCode}
-use Rattle.sheet.specs.Reading.{regionOf, parameterOf, itemOf, toleranceOf, bodyOf, recordOf, tailOf}
+use Rattle.sheet.specs.Reading.{regionOf, parameterOf, itemOf, toleranceOf, releaseOf, bodyOf, recordOf, tailOf}
 use Rattle.sheet.specs.declared.entries.Parameter.{Parameter}
 use Rattle.sheet.specs.declared.entries.Item.{Item}
 use Rattle.sheet.specs.declared.records.Counts.{Counts}
 use Rattle.sheet.specs.declared.records.Reading.the-variants.{Record}
 use Rattle.sheet.proofs.Steps.{region-there, parameter-there, code-there}
 use Rattle.law.specs.Words.{Every, Some, joined}
-use Rattle.law.specs.Sheet.{Region as Area, Parameter as Param, Item as Ident, GoodRegion, GoodParameter, GoodItem, InRegion, regionOctets, parameterOctets, itemOctets, toleranceOctets}
+use Rattle.law.specs.Sheet.{Region as Area, Parameter as Param, Item as Ident, GoodRegion, GoodParameter, GoodItem, GoodRelease, InRegion, regionOctets, parameterOctets, itemOctets, toleranceOctets, releaseOctets}
 use Rattle.law.proofs.Written.{le2-back, le4-back}
 use Rattle.law.proofs.Layouts.{full, counts, asRegion, asParameter}
 
@@ -191,16 +191,32 @@ module _ (s : List ℕ) where
 
   -- the tolerance stands once
   module _ (r p k m : ℕ) where
-    judged-once : (x : ℕ) → x ≤ 3 → judgedTolerance x (full r p k 0 m) ≡ Record 2 (full r p k 1 m)
+    judged-once : (x : ℕ) → x ≤ 3 → judgedTolerance x (full r p k 0 0 m) ≡ Record 2 (full r p k 1 0 m)
     unfolding judgedTolerance
     judged-once x g = pick-ge _ _ g
 
     pub read-tolerance : (x : ℕ) (t : List ℕ) (n : ℕ) → drop (4 + 10 * r + 8 * p + 35 * k + 2 * n) s ≡ toleranceOctets x ++ t → x ≤ 3 → n < 1
-        → recordOf s (toleranceOctets x ++ t) (full r p k n m) ≡ Record 2 (full r p k (n + 1) m)
+        → recordOf s (toleranceOctets x ++ t) (full r p k n 0 m) ≡ Record 2 (full r p k (n + 1) 0 m)
     unfolding bodyOf toleranceOf sizeOf isKind misplacedOf
     read-tolerance x t n at g u =
-        subst (λ (i : ℕ). recordOf s (toleranceOctets x ++ t) (full r p k i m) ≡ Record 2 (full r p k (i + 1) m)) (let z : 0 ≡ n = omega arith in z)
-        (behind-link s 6 2 _ (full r p k 0 m) (shorter s (toleranceOctets x ++ t) (4 + 10 * r + 8 * p + 35 * k + 2 * n) at (omega arith) (omega arith)) refl refl
+        subst (λ (i : ℕ). recordOf s (toleranceOctets x ++ t) (full r p k i 0 m) ≡ Record 2 (full r p k (i + 1) 0 m)) (let z : 0 ≡ n = omega arith in z)
+        (behind-link s 6 2 _ (full r p k 0 0 m) (shorter s (toleranceOctets x ++ t) (4 + 10 * r + 8 * p + 35 * k + 2 * n) at (omega arith) (omega arith)) refl refl
         (pick-no _ _ refl ∙ pick-no _ _ refl ∙ pick-no _ _ refl ∙ pick-no _ _ refl ∙ pick-no _ _ refl) (omega arith)
-        ∙ pick-no _ _ refl ∙ pick-no _ _ refl ∙ pick-no _ _ refl ∙ pick-no _ _ refl ∙ pick-no _ _ refl
+        ∙ pick-no _ _ refl ∙ pick-no _ _ refl ∙ pick-no _ _ refl ∙ pick-no _ _ refl ∙ pick-no _ _ refl ∙ pick-yes _ _ refl
         ∙ judged-once x g)
+
+  -- and so does the release
+  module _ (r p k q m : ℕ) where
+    picked-once : (x : ℕ) → GoodRelease x → judgedRelease x (full r p k q 0 m) ≡ Record 2 (full r p k q 1 m)
+    unfolding judgedRelease
+    picked-once x g = pick-ne _ _ (λ (z : x ≡ 0). let w : ⊥ = omega (arith, g .0) in w) ∙ pick-ge _ _ (g .1)
+
+    pub read-release : (x : ℕ) (t : List ℕ) (n : ℕ) → drop (4 + 10 * r + 8 * p + 35 * k + 2 * q + 2 * n) s ≡ releaseOctets x ++ t → GoodRelease x → n < 1
+        → recordOf s (releaseOctets x ++ t) (full r p k q n m) ≡ Record 2 (full r p k q (n + 1) m)
+    unfolding bodyOf releaseOf sizeOf isKind misplacedOf
+    read-release x t n at g u =
+        subst (λ (i : ℕ). recordOf s (releaseOctets x ++ t) (full r p k q i m) ≡ Record 2 (full r p k q (i + 1) m)) (let z : 0 ≡ n = omega arith in z)
+        (behind-link s 7 2 _ (full r p k q 0 m) (shorter s (releaseOctets x ++ t) (4 + 10 * r + 8 * p + 35 * k + 2 * q + 2 * n) at (omega arith) (omega arith)) refl refl
+        (pick-no _ _ refl ∙ pick-no _ _ refl ∙ pick-no _ _ refl ∙ pick-no _ _ refl ∙ pick-no _ _ refl) (omega arith)
+        ∙ pick-no _ _ refl ∙ pick-no _ _ refl ∙ pick-no _ _ refl ∙ pick-no _ _ refl ∙ pick-no _ _ refl ∙ pick-no _ _ refl
+        ∙ picked-once x g)

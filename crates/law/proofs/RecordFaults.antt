@@ -21,7 +21,7 @@ use Rattle.regions.proofs.Spans.{before-all, all-before}
 use Rattle.regions.specs.declared.Region.{Region}
 use Rattle.sheet.specs.Entries.{parameterAt, itemFrom}
 use Rattle.sheet.specs.Faults.{numberOf}
-use Rattle.sheet.specs.Judging.{judgedRegion, judgedParameter, judgedItem, judgedTolerance}
+use Rattle.sheet.specs.Judging.{judgedRegion, judgedParameter, judgedItem, judgedTolerance, judgedRelease}
 use Rattle.sheet.specs.Kinds.{endBefore, leastNumber, leastCode}
 use Rattle.sheet.specs.Reading.{tailOf}
 use Rattle.sheet.specs.declared.entries.Parameter.{Parameter}
@@ -30,8 +30,8 @@ use Rattle.sheet.specs.declared.records.Fault.{Fault}
 use Rattle.sheet.specs.declared.records.Fault.the-variants.{Range, Disorder, Excess, Unmapped}
 use Rattle.sheet.specs.declared.records.Reading.the-variants.{Bad}
 use Rattle.law.specs.Words.{Every, InARow, Some}
-use Rattle.law.specs.Sheet.{Region as Area, Parameter as Param, Item as Ident, GoodRegion, GoodItem, IsOctet, InRegion, room}
-use Rattle.law.specs.Faults.{RegionFault, ParameterFault, ItemFault, ToleranceFault}
+use Rattle.law.specs.Sheet.{Region as Area, Parameter as Param, Item as Ident, GoodRegion, GoodItem, GoodRelease, IsOctet, InRegion, room}
+use Rattle.law.specs.Faults.{RegionFault, ParameterFault, ItemFault, ToleranceFault, ReleaseFault}
 use Rattle.law.proofs.Checks.{decides, passes, no-more, row-more, row-last, sum-more}
 use Rattle.law.proofs.Front.{readSheet}
 use Rattle.law.proofs.Cuts.{grants-has, zeros-back, octet-at, octets-drop, octets-take, drop-take}
@@ -71,6 +71,15 @@ least-lower n last x l z = let q : last + 1 ≤ x = subst (λ (k : ℕ). k ≤ x
 pub tolerance-fault : (so : Counts) (fault : Fault) (x : ℕ) → (judgedTolerance x so ≡ Bad fault) ↔ ToleranceFault x (numberOf fault)
 unfolding judgedTolerance numberOf
 tolerance-fault so fault x = decides _ Range _ refl (λ t q. let e = ltb-true 3 x t in omega (arith, q, e)) (λ t. passes (ltb-false 3 x t) no-more)
+
+-- request 13's has two
+pub release-fault : (so : Counts) (fault : Fault) (x : ℕ) → (judgedRelease x so ≡ Bad fault) ↔ ReleaseFault x (numberOf fault)
+unfolding judgedRelease numberOf
+release-fault so fault x =
+    decides _ Range _ refl (λ t (q : GoodRelease x). let e = eqb-true x 0 t in omega (arith, q .0, e)) (λ t₁.
+    decides _ Range _ refl (λ t (q : GoodRelease x). let e = ltb-true 2 x t in omega (arith, q .1, e)) (λ t₂.
+    let z = eqb-false x 0 t₁ in
+    passes (omega arith, ltb-false 2 x t₂) no-more))
 
 module _ (s : List ℕ) (so : Counts) (fault : Fault) (memory : room (readSheet s so .regions) ≡ so .memory)
     (numbers : InARow (λ (a b : Param). a .number < b .number) (readSheet s so .parameters)) where

@@ -2,7 +2,7 @@
 use mathlib.Core.Bool.{Bool, true, false, not}
 use mathlib.Core.Logic.{_⊎_}
 use mathlib.Core.Path.{_≡_, refl, sym, ap, ap₂, subst, _∙_}
-use mathlib.Core.List.{List, [], _∷_, map}
+use mathlib.Core.List.{List, [], _∷_, _++_, map}
 use Prim.Native.Nat.{ℕ, _+_, _-_, _/_, _%_, _≤_}
 use native.Mathlib.Omega.{arith}
 use borrow.Author.Tests.{leb-true, eqb-true}
@@ -20,7 +20,7 @@ use Rattle.frame.proofs.Rooms.{sized, parameter-room}
 use Rattle.law.specs.Words.{when, Piece, piece, laid}
 use Rattle.law.specs.Sheet.{PduType, enhanced, short, Sheet, GoodLength, allows}
 use Rattle.law.specs.Memory.{cells, stored, held, hasAll, mapped}
-use Rattle.law.specs.Table.{Check, check, rightsCheck, Row, row, parameterChecks as paramChecks, itemChecks, itemPart, connectChecks, number, parameter as param, item as ident}
+use Rattle.law.specs.Table.{Check, check, rightsCheck, Run, Row, row, parameterChecks as paramChecks, parameterRights, itemChecks, itemPart, connectChecks, number, parameter as param, item as ident}
 use Rattle.law.specs.Exchange.{Fate, fate, code, wdt, refused, checked, passing}
 use Rattle.link.specs.Steps.{latched, cleared, connected}
 use Rattle.link.specs.Stored.{octetsOf}
@@ -168,12 +168,12 @@ module _ (pdu : PduType) (h : Sheet) (sheet : List ℕ) (st : LinkState) (m c : 
           ∙ world .writes a n (take n (drop from c)) q (simp (length-take, length-drop) (omega arith))
 
       pub granted-row : (writes : Bool) (right : ℕ → Bool) (a n : ℕ) → ((x : ℕ) → right x ≡ givesOf x (rightOf writes (st .link)))
-          → dataFrom form by + n ≤ bodyEnd form (h .l) → (x : ℕ) (ns : List ℕ) (ks : List Check)
+          → dataFrom form by + n ≤ bodyEnd form (h .l) → (x : ℕ) (ns : List ℕ) (vs : List Run) (ks : List Check)
           → J (grantedOf writes (map asRegion (h .regions)) by a n st)
           (checked s (rightsCheck right (cells (h .regions)) a n ∷ [])
-          (row x ns ks [] (echo ∷ dataPiece writes from (cells (h .regions)) m c a n ∷ []) (written writes from c a n)))
+          (row x ns vs ks [] (echo ∷ dataPiece writes from (cells (h .regions)) m c a n ∷ []) (written writes from c a n)))
       unfolding grantedOf checked
-      granted-row writes right a n same l x ns ks =
+      granted-row writes right a n same l x ns vs ks =
           let w = rightOf writes (st .link) in
           let rs = map asRegion (h .regions) in
           step _ _ 10 (subst (Tells (Span (beforeOf rs w a n))) (sym (before-span right w same (h .regions) a n)) (span-at (beforeOf rs w a n))) (ap not (sym (all-span right w same (h .regions) a n))) (λ t.
@@ -181,24 +181,24 @@ module _ (pdu : PduType) (h : Sheet) (sheet : List ℕ) (st : LinkState) (m c : 
           doing (moved writes by (spanPlace rs a n) n) st kept (moved-body writes a n q) (moved-memory writes a n l q))
 
       pub span-row : (writes : Bool) (right : ℕ → Bool) (a n : ℕ) → ((x : ℕ) → right x ≡ givesOf x (rightOf writes (st .link)))
-          → dataFrom form by + n ≤ bodyEnd form (h .l) → (place : ℕ) → Tells Address place → (x : ℕ) (ns : List ℕ) (ks : List Check)
+          → dataFrom form by + n ≤ bodyEnd form (h .l) → (place : ℕ) → Tells Address place → (x : ℕ) (ns : List ℕ) (vs : List Run) (ks : List Check)
           → J (spanOf writes (map asRegion (h .regions)) by a n st)
           (checked s (check (hasAll mapped (cells (h .regions)) a n) 9 place ∷ rightsCheck right (cells (h .regions)) a n ∷ [])
-          (row x ns ks [] (echo ∷ dataPiece writes from (cells (h .regions)) m c a n ∷ []) (written writes from c a n)))
+          (row x ns vs ks [] (echo ∷ dataPiece writes from (cells (h .regions)) m c a n ∷ []) (written writes from c a n)))
       unfolding spanOf checked
-      span-row writes right a n same l place at x ns ks =
-          step _ _ 9 at (ap not (sym (all-span mapped Mapped mapped-is (h .regions) a n))) (λ q. granted-row writes right a n same l x ns ks)
+      span-row writes right a n same l place at x ns vs ks =
+          step _ _ 9 at (ap not (sym (all-span mapped Mapped mapped-is (h .regions) a n))) (λ q. granted-row writes right a n same l x ns vs ks)
 
     -- rows that both types have, over what a type's table has of its own; only the code decides the row
-    module _ (code : ℕ) (x : ℕ) (ns : List ℕ) (ks : List Check) where
+    module _ (code : ℕ) (x : ℕ) (ns : List ℕ) (vs : List Run) (ks : List Check) where
       abbrev lay : Layout
       lay = layoutAs pdu h
 
       -- 01 PRM_RD, 02 PRM_WR
       pub param-row : (most : ℕ) → most ≡ h .l - 8 → (echo : Piece) (from : ℕ) → Lays Parameter echo from
           → (writes : Bool) (right : ℕ → Bool) → ((y : ℕ) → right y ≡ givesOf y (rightOf writes (st .link)))
-          → J (parameterOf writes sheet lay st (named form code c)) (checked s (paramChecks h s m c most right)
-          (row x ns ks [] (echo ∷ dataPiece writes from (cells (h .regions)) m c (param h s m c .address) (param h s m c .size) ∷ [])
+          → J (parameterOf writes sheet lay st (named form code c)) (checked s (paramChecks h s m c most ++ parameterRights h s m c right)
+          (row x ns vs ks [] (echo ∷ dataPiece writes from (cells (h .regions)) m c (param h s m c .address) (param h s m c .size) ∷ [])
           (written writes from c (param h s m c .address) (param h s m c .size))))
       unfolding parameterOf parameterData checked
       param-row most is echo from lays writes right same =
@@ -213,7 +213,7 @@ module _ (pdu : PduType) (h : Sheet) (sheet : List ℕ) (st : LinkState) (m c : 
           step _ _ 9 size-at (less-most size is) (λ l.
           via (ap (λ (rs : List Region). grantedOf writes rs Parameter (p .address) (p .size) st) (world .regions))
           (granted-row Parameter echo from lays writes right (p .address) (p .size) same
-          (let q = eqb-true size (p .size) e in let r = leb-true size _ l in parameter-room form (p .size) (h .l) (pdu-sized pdu (h .l) (world .long) good) (omega arith)) x ns ks)))))
+          (let q = eqb-true size (p .size) e in let r = leb-true size _ l in parameter-room form (p .size) (h .l) (pdu-sized pdu (h .l) (world .long) good) (omega arith)) x ns vs ks)))))
           (λ b.
           via (ap (λ (y : SoughtParameter). parameterData writes (regionsOf sheet (length (h .regions))) lay st (named form code c) y) (at ∙ param-missing (h .parameters) n b))
           (refusing 9 Number _ number-at))
@@ -221,7 +221,7 @@ module _ (pdu : PduType) (h : Sheet) (sheet : List ℕ) (st : LinkState) (m c : 
       -- 03 ID_RD
       pub item-row : (size most : ℕ) → named form code c .count ≡ size → most ≡ h .l - 8 → (echo : Piece) (from : ℕ)
           → ((at n k old : ℕ) → bodyAt form (Identifies at n) sheet m c k old ≡ laid (echo ∷ piece from (part sheet at n) ∷ []) k old)
-          → J (itemOf sheet lay st (named form code c)) (checked s (itemChecks h s m c size most) (row x ns ks [] (echo ∷ piece from (itemPart h s m c size) ∷ []) []))
+          → J (itemOf sheet lay st (named form code c)) (checked s (itemChecks h s m c size most) (row x ns vs ks [] (echo ∷ piece from (itemPart h s m c size) ∷ []) []))
       unfolding itemOf itemData checked
       item-row k most two is echo from lies =
           let n = named form code c .item in
@@ -241,7 +241,7 @@ module _ (pdu : PduType) (h : Sheet) (sheet : List ℕ) (st : LinkState) (m c : 
 
       -- 06 ALM_CLR
       pub clear-row : (mode : ℕ) → named form code c .«alarm_mode» ≡ mode
-          → J (clearOf st (named form code c)) (checked s (check (eqb mode 0) 9 4 ∷ []) (row x ns ks (piece 8 (0 ∷ []) ∷ piece 9 (0 ∷ []) ∷ []) [] []))
+          → J (clearOf st (named form code c)) (checked s (check (eqb mode 0) 9 4 ∷ []) (row x ns vs ks (piece 8 (0 ∷ []) ∷ piece 9 (0 ∷ []) ∷ []) [] []))
       unfolding clearOf checked
       clear-row mode is = step _ _ 9 alarm-mode-at (ap (λ (n : ℕ). not (eqb n 0)) is) (λ z. quiet (cleared st) _ (goes-cleared sent st facts on))
 

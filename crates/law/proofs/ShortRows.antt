@@ -6,12 +6,14 @@ use Prim.Native.Nat.{ℕ, _-_}
 use native.Mathlib.Omega.{arith}
 use borrow.Author.Tests.{ne-eqb, le-ltb}
 use lib.Dec.{eqb}
-use lib.ListN.{length, drop}
+use lib.ListN.{length, take}
 use Rattle.octets.specs.Parts.{part}
 use Rattle.octets.specs.Pick.{pick}
 use Rattle.octets.proofs.Pick.{pick-no}
 use Rattle.frame.proofs.Bodies.{bodyAt, short-parameter-at, short-parameter-data, short-identifies-at, short-alarms-at, short-connects-at}
 use Rattle.frame.proofs.Kept.{alarms-keep, connects-keep}
+use Rattle.frame.specs.Unnamed.{strayAs}
+use Rattle.frame.proofs.Names.{short-nop, short-prm-rd, short-prm-wr, short-id-rd, short-alm-rd, short-alm-clr, short-sync-set, short-connect, short-disconnect}
 use Rattle.frame.proofs.Named.{named, one-short, alarm-mode-at}
 use Rattle.link.specs.Steps.{synced, dropped}
 use Rattle.link.specs.Stored.{octetsOf}
@@ -92,7 +94,7 @@ module _ (h : Sheet) (sheet : List ℕ) (st : LinkState) (m c : List ℕ) (facts
 
   module _ (k : ℕ) where
     -- 05 ALM_RD
-    alarms-row : Here (alarmsOf lay st (named Short k c)) (checked s (rowAt 4 .checks) (rowAt 4))
+    alarms-row : Here (alarmsOf lay st (named Short k c)) (checked s (take 1 (rowAt 4 .checks)) (rowAt 4))
     unfolding alarmsOf checked
     alarms-row =
         via short h sheet st m c facts on world good asked (wdt-same short (code c) c) (pick-no _ _ (le-ltb (h .l) 16 (omega arith)))
@@ -101,28 +103,28 @@ module _ (h : Sheet) (sheet : List ℕ) (st : LinkState) (m c : List ℕ) (facts
         (alarms-keep Short c m (st .latches .command) (st .latches .communication) ∙ unmoved short h sheet st m c facts on world good asked (wdt-same short (code c) c))))
 
     -- 0E CONNECT
-    connects-row : oneOf (link s) (rowAt 7 .links) ≡ true → Here (connectOf lay st (named Short k c)) (checked s (rowAt 7 .checks) (rowAt 7))
+    connects-row : oneOf (link s) (rowAt 7 .links) ≡ true → Here (connectOf lay st (named Short k c)) (checked s (take 3 (rowAt 7 .checks)) (rowAt 7))
     unfolding profileFits checked
     connects-row ok =
-        connect-row short h sheet st m c facts on world good asked (wdt-same short (code c) c) k 0 [] [] (drop 3 (rowAt 7 .checks)) (rowAt 7) (λ three.
+        connect-row short h sheet st m c facts on world good asked (wdt-same short (code c) c) k 0 [] [] [] [] (rowAt 7) (λ three.
         via short h sheet st m c facts on world good asked (wdt-same short (code c) c) (pick-no _ _ refl)
         (doing short h sheet st m c facts on world good asked (wdt-same short (code c) c) Connects _ (connect-goes mn st facts on _ _ three ok) connects-body (connects-keep Short c m ∙ unmoved short h sheet st m c facts on world good asked (wdt-same short (code c) c))))
 
-  pub judge-short : (n : ℕ) → Here (judgeOf sheet lay st (named Short n c)) (judged s n rows)
+  pub judge-short : (n : ℕ) → Here (judgeOf sheet lay st (named Short n c) (strayAs Short (lay .release) n c)) (judged s n rows)
   unfolding isKnown isAllowed dataOf judged pick when checked
   judge-short =
       let row : (k : ℕ) → _ = λ k. known short h sheet st m c facts on world good asked rows k in
       let links = allowing st facts on in
-      by-code (λ n. Here (judgeOf sheet lay st (named Short n c)) (judged s n rows))
-      (row 0x00 _ (rowAt 0) refl (links 0x00 (1 ∷ 2 ∷ 3 ∷ []) refl refl refl) refl refl (λ a. quiet short h sheet st m c facts on world good asked (wdt-same short (code c) c) st [] (kept short h sheet st m c facts on world good asked (wdt-same short (code c) c))))
-      (row 0x01 _ (rowAt 1) refl (links 0x01 (2 ∷ 3 ∷ []) refl refl refl) refl refl (λ a. param-row short h sheet st m c facts on world good asked (wdt-same short (code c) c) 0x01 0 [] [] 8 eight (echoIn 1) (fromIn 1) parameter-lays false readable (read-is st facts on)))
-      (row 0x02 _ (rowAt 2) refl (links 0x02 (2 ∷ 3 ∷ []) refl refl refl) refl refl (λ a. param-row short h sheet st m c facts on world good asked (wdt-same short (code c) c) 0x02 0 [] [] 8 eight (echoIn 1) (fromIn 1) parameter-lays true (writable (link s)) (write-is st facts on)))
-      (row 0x03 _ (rowAt 3) refl (links 0x03 (2 ∷ 3 ∷ []) refl refl refl) refl refl (λ a. item-row short h sheet st m c facts on world good asked (wdt-same short (code c) c) 0x03 0 [] [] (shortSize h s m c) 8 (one-short c _) eight (echoIn 3) (fromIn 3) item-lies))
-      (row 0x05 _ (rowAt 4) refl (links 0x05 (2 ∷ 3 ∷ []) refl refl refl) refl refl (λ a. alarms-row 0x05))
-      (row 0x06 _ (rowAt 5) refl (links 0x06 (2 ∷ 3 ∷ []) refl refl refl) refl refl (λ a. clear-row short h sheet st m c facts on world good asked (wdt-same short (code c) c) 0x06 0 [] [] _ (one-short c _)))
-      (row 0x0D _ (rowAt 6) refl (links 0x0D (2 ∷ []) refl refl refl) refl refl (λ a. quiet short h sheet st m c facts on world good asked (wdt-same short (code c) c) (synced st) _ (goes-synced mn st facts on a)))
-      (row 0x0E _ (rowAt 7) refl (links 0x0E (1 ∷ []) refl refl refl) refl refl (λ a. connects-row 0x0E a))
-      (row 0x0F _ (rowAt 8) refl (links 0x0F (1 ∷ 2 ∷ 3 ∷ []) refl refl refl) refl refl (λ a. quiet short h sheet st m c facts on world good asked (wdt-same short (code c) c) (dropped st) _ (goes-dropped mn st facts on)))
+      by-code (λ n. Here (judgeOf sheet lay st (named Short n c) (strayAs Short (lay .release) n c)) (judged s n rows))
+      (row 0x00 _ (rowAt 0) 0 refl (links 0x00 (1 ∷ 2 ∷ 3 ∷ []) refl refl refl) refl refl refl refl (short-nop c) refl (λ a. quiet short h sheet st m c facts on world good asked (wdt-same short (code c) c) st [] (kept short h sheet st m c facts on world good asked (wdt-same short (code c) c))))
+      (row 0x01 _ (rowAt 1) 3 refl (links 0x01 (2 ∷ 3 ∷ []) refl refl refl) refl refl refl refl (short-prm-rd c) refl (λ a. param-row short h sheet st m c facts on world good asked (wdt-same short (code c) c) 0x01 0 [] [] [] 8 eight (echoIn 1) (fromIn 1) parameter-lays false readable (read-is st facts on)))
+      (row 0x02 _ (rowAt 2) 3 refl (links 0x02 (2 ∷ 3 ∷ []) refl refl refl) refl refl refl refl (short-prm-wr c) refl (λ a. param-row short h sheet st m c facts on world good asked (wdt-same short (code c) c) 0x02 0 [] [] [] 8 eight (echoIn 1) (fromIn 1) parameter-lays true (writable (link s)) (write-is st facts on)))
+      (row 0x03 _ (rowAt 3) 4 refl (links 0x03 (2 ∷ 3 ∷ []) refl refl refl) refl refl refl refl (short-id-rd c) refl (λ a. item-row short h sheet st m c facts on world good asked (wdt-same short (code c) c) 0x03 0 [] [] [] (shortSize h s m c) 8 (one-short c _) eight (echoIn 3) (fromIn 3) item-lies))
+      (row 0x05 _ (rowAt 4) 1 refl (links 0x05 (2 ∷ 3 ∷ []) refl refl refl) refl refl refl refl (short-alm-rd c) refl (λ a. alarms-row 0x05))
+      (row 0x06 _ (rowAt 5) 1 refl (links 0x06 (2 ∷ 3 ∷ []) refl refl refl) refl refl refl refl (short-alm-clr c) refl (λ a. clear-row short h sheet st m c facts on world good asked (wdt-same short (code c) c) 0x06 0 [] [] [] _ (one-short c _)))
+      (row 0x0D _ (rowAt 6) 0 refl (links 0x0D (2 ∷ []) refl refl refl) refl refl refl refl (short-sync-set c) refl (λ a. quiet short h sheet st m c facts on world good asked (wdt-same short (code c) c) (synced st) _ (goes-synced mn st facts on a)))
+      (row 0x0E _ (rowAt 7) 3 refl (links 0x0E (1 ∷ []) refl refl refl) refl refl refl refl (short-connect c) refl (λ a. connects-row 0x0E a))
+      (row 0x0F _ (rowAt 8) 0 refl (links 0x0F (1 ∷ 2 ∷ 3 ∷ []) refl refl refl) refl refl refl refl (short-disconnect c) refl (λ a. quiet short h sheet st m c facts on world good asked (wdt-same short (code c) c) (dropped st) _ (goes-dropped mn st facts on)))
       (unknown short h sheet st m c facts on world good asked rows 0x1D refl refl)
       (unknown short h sheet st m c facts on world good asked rows 0x1E refl refl)
       (λ n z0 z1 z2 z3 z4 z5 z6 z7 z8 z9 z10.

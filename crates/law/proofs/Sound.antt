@@ -49,6 +49,7 @@ reached s v h w =
       parameters = λ i l. absurd (let k : ⊥ = omega arith in k);
       items = λ i l. absurd (let k : ⊥ = omega arith in k);
       tolerances = λ i l. absurd (let k : ⊥ = omega arith in k);
+      releases = λ i l. absurd (let k : ⊥ = omega arith in k);
     })
     v (omega arith) w
 

@@ -19,7 +19,7 @@ use Rattle.law.proofs.Layouts.{asParameter, asRegion}
 
 -- a row of a table and a piece of a body, each by its place
 abbrev pub nth : List Row → ℕ → Row
-nth [] i = row 0 [] [] [] [] []
+nth [] i = row 0 [] [] [] [] [] []
 nth (r ∷ rs) zero = r
 nth (r ∷ rs) (suc i) = nth rs i
 

@@ -13,7 +13,7 @@ use Rattle.octets.specs.Parts.{part}
 use Rattle.octets.proofs.Cases.{eq-or-ne}
 use Rattle.octets.proofs.Pick.{pick-eq, pick-ne}
 use Rattle.law.specs.Words.{Every, joined, oneOf}
-use Rattle.law.specs.Sheet.{Item as Ident, Sheet, GoodItem, WellFormed, FiveLengths, room, sheetOctets, parameterOctets, itemOctets, toleranceOctets}
+use Rattle.law.specs.Sheet.{Item as Ident, Sheet, GoodItem, WellFormed, FiveLengths, room, sheetOctets, parameterOctets, itemOctets, toleranceOctets, releaseOctets}
 use Rattle.law.specs.Memory.{mapped}
 use Rattle.law.specs.Table.{itemOf as identOf}
 use Rattle.law.proofs.Readings.{regions-listed}
@@ -108,7 +108,7 @@ world-of h w m e =
     let apart = apart-good (h .regions) (w .regions) (w .apart) in
     let whole = e ∙ sym (length-cells (h .regions)) in
     record {
-      regions = regions-listed s (h .regions) (joined parameterOctets (h .parameters) ++ (joined itemOctets (h .items) ++ (joined toleranceOctets (h .tolerances) ++ 0 ∷ []))) 0 refl (w .regions);
+      regions = regions-listed s (h .regions) (joined parameterOctets (h .parameters) ++ (joined itemOctets (h .items) ++ (joined toleranceOctets (h .tolerances) ++ (joined releaseOctets (h .releases) ++ 0 ∷ [])))) 0 refl (w .regions);
       parameters = sym (parameters-back (parameterAt s r) 0 p) ∙ ap (λ (x : Sheet). map asParameter (x .parameters)) back;
       items = λ n. subst (λ (l : List Ident). ItemSame (itemsOf s r p k) l s n) ids
           (items-same s r p 0 k n (subst (λ (l : List Ident). Every (λ (i : Ident). i .length ≤ 32) l) (sym ids) (sizes (h .items) (w .items))));

@@ -9,7 +9,7 @@ use Rattle.law.specs.Sheet.{PduType, enhanced, short, Sheet, allows}
 use Rattle.law.specs.State.{link, mnKnown, lastMn, rsn, commandLatch, communicationLatch, failures}
 use Rattle.law.specs.Table.{Check, check, Row, table}
 
--- "Command: octet 0 code, octet 1 WDT (low half MN, high half SN), octets 2 and 3 control, ignored"; request 1: bits 6 and 7 of octet 2 are the identity.
+-- "Command: octet 0 code, octet 1 WDT (low half MN, high half SN), octets 2 and 3 control, ignored", in release 1; request 1: bits 6 and 7 of octet 2 are the identity.
 -- Request 7: "code, 14 octets of body, WDT last"
 abbrev pub code : List ℕ → ℕ
 code c = octet c 0

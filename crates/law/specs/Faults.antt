@@ -5,7 +5,7 @@ use mathlib.Core.Logic.{_⊎_}
 use mathlib.Core.Path.{_≡_}
 use lib.ListN.{length, getD}
 use Rattle.law.specs.Words.{FaultUnless, NoMore}
-use Rattle.law.specs.Sheet.{PduType, Region, Parameter, Item, Sheet, GoodRegion, GoodItem, WellFormed, GoodLength, linkKind, Apart, NumbersRise, CodesRise, Spanned, FewRegions, FewParameters, FewItems, regionOctets, parameterOctets, itemOctets, toleranceOctets, written}
+use Rattle.law.specs.Sheet.{PduType, Region, Parameter, Item, Sheet, GoodRegion, GoodItem, GoodRelease, WellFormed, GoodLength, linkKind, Apart, NumbersRise, CodesRise, Spanned, FewRegions, FewParameters, FewItems, regionOctets, parameterOctets, itemOctets, toleranceOctets, releaseOctets, written}
 
 -- what stands before the record at fault: nothing, or records of which a sheet could consist
 pub data Sofar : Type 0 where
@@ -22,24 +22,22 @@ GoodSofar nothing = Unit {0}
 GoodSofar (records h) = WellFormed h
 
 -- "The link record comes first and once; then regions, parameters, ID items, end": an end record first is out of place too. Request 7: "kind 05 beside kind 01
--- is 13". The tolerance comes "after the ID items and at most once"
+-- is 13". The tolerance comes "after the ID items and at most once", the release "last before the end", at most once
 abbrev pub InPlace : Sofar → ℕ → Type 0
 InPlace nothing kind = (t : PduType) × (kind ≡ linkKind t)
 InPlace (records h) kind =
     ((t : PduType) → kind ≡ linkKind t → ⊥)
-    × (kind ≡ 2 → length (h .parameters) ≡ 0)
-    × (kind ≡ 2 → length (h .items) ≡ 0)
-    × (kind ≡ 2 → length (h .tolerances) ≡ 0)
-    × (kind ≡ 3 → length (h .items) ≡ 0)
-    × (kind ≡ 3 → length (h .tolerances) ≡ 0)
-    × (kind ≡ 4 → length (h .tolerances) ≡ 0)
-    × (kind ≡ 6 → length (h .tolerances) ≡ 0)
+    × (kind ≡ 2 → length (h .parameters) + length (h .items) + length (h .tolerances) + length (h .releases) ≡ 0)
+    × (kind ≡ 3 → length (h .items) + length (h .tolerances) + length (h .releases) ≡ 0)
+    × (kind ≡ 4 → length (h .tolerances) + length (h .releases) ≡ 0)
+    × (kind ≡ 6 → length (h .tolerances) + length (h .releases) ≡ 0)
+    × (kind ≡ 7 → length (h .releases) ≡ 0)
 
 -- the kinds that there are
 abbrev pub Kind : ℕ → Type 0
-Kind kind = kind ≤ 6
+Kind kind = kind ≤ 7
 
--- "a body whose length the kind fixes": the octets of a record of kind 0 to 6, the kind octet among them
+-- "a body whose length the kind fixes": the octets of a record of kind 0 to 7, the kind octet among them
 abbrev pub recordLength : ℕ → ℕ
 recordLength zero = 1
 recordLength (suc zero) = 4
@@ -75,6 +73,9 @@ ItemFault h i =
 abbrev pub ToleranceFault : ℕ → ℕ → Type 0
 ToleranceFault n = FaultUnless 14 (n ≤ 3) NoMore
 
+abbrev pub ReleaseFault : ℕ → ℕ → Type 0
+ReleaseFault n = FaultUnless 14 (GoodRelease n) NoMore
+
 -- the record that `rest` begins with, its numbers fitting their octets, and its fault
 abbrev pub BodyFault : Sofar → List ℕ → ℕ → Type 0
 BodyFault nothing rest f = FaultUnless 14 ((t : PduType) × (getD rest 0 0 ≡ linkKind t) × GoodLength t (getD rest 1 0)) NoMore f
@@ -82,7 +83,8 @@ BodyFault (records h) rest f =
     ((r : Region) × (t : List ℕ) × (rest ≡ regionOctets r ++ t) × (r .start < 4294967296) × (r .length < 4294967296) × RegionFault h r f)
     ⊎ (((p : Parameter) × (t : List ℕ) × (rest ≡ parameterOctets p ++ t) × (p .number < 65536) × (p .address < 4294967296) × ParameterFault h p f)
     ⊎ (((i : Item) × (t : List ℕ) × (rest ≡ itemOctets i ++ t) × (length (i .octets) ≡ 32) × ItemFault h i f)
-    ⊎ ((n : ℕ) × (t : List ℕ) × (rest ≡ toleranceOctets n ++ t) × ToleranceFault n f)))
+    ⊎ (((n : ℕ) × (t : List ℕ) × (rest ≡ toleranceOctets n ++ t) × ToleranceFault n f)
+    ⊎ ((n : ℕ) × (t : List ℕ) × (rest ≡ releaseOctets n ++ t) × ReleaseFault n f))))
 
 -- "sheet ended before an end record (11), unknown kind (12), kind out of place (13), body cut short (11)", then the record's own
 abbrev pub RecordFault : Sofar → List ℕ → ℕ → Type 0

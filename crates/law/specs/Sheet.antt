@@ -1,8 +1,10 @@
 -- "The device sheet": what it consists of, the octets that it is written as, and when it is well formed. Nothing here reads a sheet.
 use Prim.Native.Nat.{ℕ, _+_, _≤_, _<_}
+use mathlib.Core.Bool.{Bool}
 use mathlib.Core.List.{List, [], _∷_, _++_}
 use mathlib.Core.Logic.{_⊎_}
 use mathlib.Core.Path.{_≡_}
+use lib.Dec.{eqb}
 use lib.ListN.{length, drop}
 use Rattle.law.specs.Words.{Every, Some, InARow, sumOf, joined, inOctets, octet}
 
@@ -28,7 +30,8 @@ pub record Item : Type 0 where
   pub octets : List ℕ
 
 -- "The link record comes first and once; then regions, parameters, ID items, end": a sheet has the link record's fields, and a list of each kind. Request 9:
--- "kind 06 with body of one octet 0 to 3, after the ID items and at most once, allows that many failures in a row, none without it"
+-- "kind 06 with body of one octet 0 to 3, after the ID items and at most once, allows that many failures in a row, none without it". Request 13: "A sheet
+-- record, kind 07, body one octet 1 or 2, last before the end, picks the rule; without it release 1 holds"
 pub record Sheet : Type 0 where
   pub pdu : PduType
   pub l : ℕ
@@ -38,9 +41,13 @@ pub record Sheet : Type 0 where
   pub parameters : List Parameter
   pub items : List Item
   pub tolerances : List ℕ
+  pub releases : List ℕ
 
 abbrev pub allows : Sheet → ℕ
 allows h = octet (h .tolerances) 0
+
+abbrev pub isRelease2 : Sheet → Bool
+isRelease2 h = eqb (octet (h .releases) 0) 2
 
 -- "02 region: start (4), length (4), rights (1)"
 abbrev pub regionOctets : Region → List ℕ
@@ -57,6 +64,9 @@ itemOctets i = 4 ∷ i .code ∷ i .length ∷ i .octets
 abbrev pub toleranceOctets : ℕ → List ℕ
 toleranceOctets n = 6 ∷ n ∷ []
 
+abbrev pub releaseOctets : ℕ → List ℕ
+releaseOctets n = 7 ∷ n ∷ []
+
 -- "01 link: L (1), version (1), profile (1)"; request 7: "A record of new kind 05, body as kind 01, L 16, selects it and stands in the link record's place"
 abbrev pub linkKind : PduType → ℕ
 linkKind enhanced = 1
@@ -67,7 +77,8 @@ abbrev pub written : Sheet → List ℕ → List ℕ
 written h rest =
     (linkKind (h .pdu) ∷ h .l ∷ h .version ∷ h .profile ∷ [])
     ++ (joined regionOctets (h .regions)
-    ++ (joined parameterOctets (h .parameters) ++ (joined itemOctets (h .items) ++ (joined toleranceOctets (h .tolerances) ++ rest))))
+    ++ (joined parameterOctets (h .parameters)
+    ++ (joined itemOctets (h .items) ++ (joined toleranceOctets (h .tolerances) ++ (joined releaseOctets (h .releases) ++ rest)))))
 
 -- a whole sheet: behind its records the end record, "00 end: none", and "nothing after"
 abbrev pub sheetOctets : Sheet → List ℕ
@@ -118,6 +129,10 @@ pub record GoodItem (i : Item) : Type 0 where
   pub octets : Every IsOctet (i .octets)
   pub zeros : Every (λ x. x ≡ 0) (drop (i .length) (i .octets))
 
+-- "body one octet 1 or 2"
+abbrev pub GoodRelease : ℕ → Type 0
+GoodRelease n = (1 ≤ n) × (n ≤ 2)
+
 -- the octets of memory that regions take
 abbrev pub room : List Region → ℕ
 room rs = sumOf (λ (r : Region). r .length) rs
@@ -143,7 +158,7 @@ FewParameters ps = length ps ≤ 64
 abbrev pub FewItems : List Item → Type 0
 FewItems is = length is ≤ 32
 
--- "2,048 octets of sheet" follow: these are 1,959 at most. A sheet may have no region, no parameter and no ID item
+-- "2,048 octets of sheet" follow: these are 1,961 at most. A sheet may have no region, no parameter and no ID item
 pub record WellFormed (h : Sheet) : Type 0 where
   pub l : GoodLength (h .pdu) (h .l)
   pub version : IsOctet (h .version)
@@ -159,3 +174,5 @@ pub record WellFormed (h : Sheet) : Type 0 where
   pub few-items : FewItems (h .items)
   pub tolerances : Every (λ n. n ≤ 3) (h .tolerances)
   pub once : length (h .tolerances) ≤ 1
+  pub releases : Every GoodRelease (h .releases)
+  pub picked-once : length (h .releases) ≤ 1

@@ -68,12 +68,12 @@ module _ (s : List ℕ) (lay : Layout) (st : LinkState) (c : Command) (i : ℕ) 
   unfolding dataOf alarmsOf clearOf connectOf memoryOf
   data-alike = rw (prm false, prm true, idr)
 
-  judge-alike : judgeOf s lay st c ≡ judgeOf s lay st (identified c i)
+  judge-alike : (stray : ℕ) → judgeOf s lay st c stray ≡ judgeOf s lay st (identified c i) stray
   unfolding judgeOf
-  judge-alike = rw data-alike
+  judge-alike stray = rw data-alike
 
-  pub outcome-alike : outcomeOf s lay st c ≡ outcomeOf s lay st (identified c i)
+  pub outcome-alike : (stray : ℕ) → outcomeOf s lay st c stray ≡ outcomeOf s lay st (identified c i) stray
   unfolding outcomeOf
-  outcome-alike =
+  outcome-alike stray =
       ap (pick (eqb (st .link) 3 && not (followsOf (st .watch) (c .wdt))) (comesTo 0 Whole Quiet (missedOf (lay .tolerance) st (mnOf c))))
-      (finished-alike (judgeOf s lay st c) ∙ ap (finished st (identified c i)) judge-alike)
+      (finished-alike (judgeOf s lay st c stray) ∙ ap (finished st (identified c i)) (judge-alike stray))

@@ -1,6 +1,6 @@
 -- Checks 2 to 5, command by command: what is asked of a command's data, in the table's order, and what an accepted command does.
 use Prim.Native.Nat.{ℕ, _+_, _-_, _*_, _/_, _%_}
-use mathlib.Core.Bool.{Bool, true, false, not}
+use mathlib.Core.Bool.{Bool, true, false, not, _||_}
 use mathlib.Core.List.{List}
 use lib.Dec.{eqb, ltb}
 use Rattle.octets.specs.Pick.{pick}
@@ -18,7 +18,7 @@ use Rattle.machine.specs.Spans.{grantedOf, spanOf}
 use Rattle.machine.specs.declared.words.Carrier.the-variants.{Parameter as ByParameter, Memory as ByMemory}
 use Rattle.machine.specs.declared.words.Command.{Command}
 use Rattle.machine.specs.declared.words.Effect.the-variants.{Quiet, Identifies, Alarms}
-use Rattle.machine.specs.declared.words.Field.the-variants.{Whole, Number, Size, Item, Count, Mode, AlarmMode}
+use Rattle.machine.specs.declared.words.Field.the-variants.{Whole, Number, Size, Item, Count, Mode, AlarmMode, Stray}
 use Rattle.machine.specs.declared.words.Judgement.{Judgement}
 use Rattle.machine.specs.declared.words.Judgement.the-variants.{Refused, Accepted}
 
@@ -88,9 +88,15 @@ dataOf s lay st c =
     (pick (eqb (c .code) 0x1D) (memoryOf false s lay st c)
     (memoryOf true s lay st c))))))))))
 
+-- request 13: an octet that should be zero is "alarm 9 at the first such octet, after a command's other data checks and before rights": a refusal by check 4
+-- stands, and nothing else does where there is such an octet; 0 where there is none
+unfoldable pub strayed : ℕ → Judgement → Judgement
+strayed stray (Refused alarm field) = pick (eqb stray 0 || eqb alarm 9) (Refused alarm field) (Refused 9 (Stray stray))
+strayed stray (Accepted effect next) = pick (eqb stray 0) (Accepted effect next) (Refused 9 (Stray stray))
+
 -- "2. Unknown code: alarm 8. 3. Code not allowed in this link: alarm 12. 4. Data: alarm 9. 5. Rights over the whole span: alarm 10."
-unfoldable pub judgeOf : List ℕ → Layout → LinkState → Command → Judgement
-judgeOf s lay st c =
+unfoldable pub judgeOf : List ℕ → Layout → LinkState → Command → ℕ → Judgement
+judgeOf s lay st c stray =
     pick (not (isKnown (lay .form) (c .code))) (Refused 8 Whole)
     (pick (not (isAllowed (st .link) (c .code))) (Refused 12 Whole)
-    (dataOf s lay st c))
+    (strayed stray (dataOf s lay st c)))

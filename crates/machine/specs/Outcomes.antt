@@ -39,7 +39,7 @@ unfoldable pub missedOf : ℕ → LinkState → ℕ → LinkState
 missedOf tolerance st mn = pick (ltb (st .watch .failures) tolerance) (tolerated st mn) (lost st)
 
 -- "1. Link 3 with MN known: MN must be last MN plus 1, modulo 16. If not, nothing is executed, the body is zero, .. the command alarm is 0"
-unfoldable pub outcomeOf : List ℕ → Layout → LinkState → Command → Outcome
-outcomeOf s lay st c =
+unfoldable pub outcomeOf : List ℕ → Layout → LinkState → Command → ℕ → Outcome
+outcomeOf s lay st c stray =
     pick (eqb (st .link) 3 && not (followsOf (st .watch) (c .wdt))) (comesTo 0 Whole Quiet (missedOf (lay .tolerance) st (mnOf c)))
-    (finished st c (judgeOf s lay st c))
+    (finished st c (judgeOf s lay st c stray))

@@ -16,7 +16,7 @@ ghost use mathlib.Core.Path.{_≡_};
 ghost use Prim.Native.Nat.{_-_};
 ghost use Rattle.regions.specs.Apart.{Laid};
 ghost use Rattle.sheet.specs.Sound.{Counted, countsOf};
-ghost use Rattle.machine.specs.Judging.{parameterOf, itemOf, alarmsOf, clearOf, elementOf, memoryOf, dataOf, judgeOf};
+ghost use Rattle.machine.specs.Judging.{parameterOf, itemOf, alarmsOf, clearOf, elementOf, memoryOf, dataOf, strayed, judgeOf};
 
 // The octets behind the first `taken` of a PDU; none where it is shorter.
 fn room(l: u8, taken: u8) -> u8
@@ -110,7 +110,7 @@ pub fn clear(st: LinkState, c: Command) -> Judgement
 }
 
 // The octets of an element of the memory commands; 0 where the mode has none.
-fn element(mode: u8) -> u8
+pub fn element(mode: u8) -> u8
     ensures { λ r. ⌜ r ≡ elementOf mode ⌝ }
 {
     if mode % 16 != 1 {
@@ -175,10 +175,30 @@ pub fn data_checks(sheet: &[u8], layout: Layout, st: LinkState, c: Command) -> J
     }
 }
 
+// A judgement beside the first octet that should be zero, 0 where there is none: only a refusal by check 4 comes before it.
+fn beside(stray: u8, judgement: Judgement) -> Judgement
+    ensures { λ r. ⌜ r ≡ strayed stray judgement ⌝ }
+{
+    match judgement {
+        Judgement::Refused(alarm, field) => {
+            if (stray == 0) | (alarm == OUT_OF_RANGE) {
+                return Judgement::Refused(alarm, field);
+            }
+            Judgement::Refused(OUT_OF_RANGE, Field::Stray(stray))
+        }
+        Judgement::Accepted(effect, next) => {
+            if stray == 0 {
+                return Judgement::Accepted(effect, next);
+            }
+            Judgement::Refused(OUT_OF_RANGE, Field::Stray(stray))
+        }
+    }
+}
+
 // Checks 2 to 5.
-pub fn judge(sheet: &[u8], layout: Layout, st: LinkState, c: Command) -> Judgement
+pub fn judge(sheet: &[u8], layout: Layout, st: LinkState, c: Command, stray: u8) -> Judgement
     requires { ⌜ Counted (now sheet) (countsOf layout) ⌝ }
-    ensures { λ r. ⌜ r ≡ judgeOf (now (sheet .entry)) layout st c ⌝ }
+    ensures { λ r. ⌜ r ≡ judgeOf (now (sheet .entry)) layout st c stray ⌝ }
 {
     let form = layout.form;
     if !crate::codes::is_known(form, c.code) {
@@ -187,5 +207,5 @@ pub fn judge(sheet: &[u8], layout: Layout, st: LinkState, c: Command) -> Judgeme
     if !crate::codes::is_allowed(st.link, c.code) {
         return Judgement::Refused(WRONG_PHASE, Field::Whole);
     }
-    data_checks(sheet, layout, st, c)
+    beside(stray, data_checks(sheet, layout, st, c))
 }

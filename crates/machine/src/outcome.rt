@@ -52,10 +52,10 @@ fn missed(tolerance: u8, st: LinkState, mn: u8) -> LinkState
     st.lost()
 }
 
-// What an exchange comes to.
-pub fn outcome(sheet: &[u8], layout: Layout, st: LinkState, c: Command) -> Outcome
+// What an exchange comes to. `stray` is the first octet of the command that should be zero and is not, 0 where there is none.
+pub fn outcome(sheet: &[u8], layout: Layout, st: LinkState, c: Command, stray: u8) -> Outcome
     requires { ⌜ Counted (now sheet) (countsOf layout) ⌝ }
-    ensures { λ r. ⌜ r ≡ outcomeOf (now (sheet .entry)) layout st c ⌝ }
+    ensures { λ r. ⌜ r ≡ outcomeOf (now (sheet .entry)) layout st c stray ⌝ }
 {
     let watch = st.watch;
     if (st.link == link::state::SYNC_CONNECTED) & !watch.follows(c.wdt) {
@@ -66,5 +66,5 @@ pub fn outcome(sheet: &[u8], layout: Layout, st: LinkState, c: Command) -> Outco
             next: missed(layout.tolerance, st, c.wdt % 16),
         };
     }
-    finish(st, c, crate::judging::judge(sheet, layout, st, c))
+    finish(st, c, crate::judging::judge(sheet, layout, st, c, stray))
 }

@@ -37,8 +37,8 @@ pub enum Effect {
     Connects,
 }
 
-// What a refusal is about: the field whose check failed, or the octet of the span that lacks the right, by how many octets come before it; the whole command
-// where its code, its link or L is at fault. `frame` knows at which octets the fields begin.
+// What a refusal is about: the field whose check failed, the octet that should be zero, or the octet of the span that lacks the right, by how many octets
+// come before it; the whole command where its code, its link or L is at fault. `frame` knows at which octets the fields begin.
 pub enum Field {
     Whole,
     Number,
@@ -52,6 +52,7 @@ pub enum Field {
     ComTime,
     Profile,
     AlarmMode,
+    Stray(u8),
     Span(u8),
 }
 

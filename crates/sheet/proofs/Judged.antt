@@ -6,7 +6,7 @@ use native.Mathlib.Omega.{arith}
 use borrow.Author.Tests.{ltb-false, leb-false, eqb-false, not-false}
 use Rattle.octets.proofs.Pick.{passed}
 use Rattle.regions.specs.declared.Region.{Region}
-use Rattle.sheet.specs.Judging.{judgedRegion, judgedParameter, judgedItem, judgedTolerance}
+use Rattle.sheet.specs.Judging.{judgedRegion, judgedParameter, judgedItem, judgedTolerance, judgedRelease}
 use Rattle.sheet.specs.declared.entries.Parameter.{Parameter}
 use Rattle.sheet.specs.declared.entries.Item.{Item}
 use Rattle.sheet.specs.declared.records.Counts.{Counts}
@@ -25,7 +25,7 @@ same-counts e = cc
 
 pub record RegionRead (r : Region) (end : ℕ) (so : Counts) (n : ℕ) (next : Counts) : Type 0 where
   pub size : 10 ≡ n
-  pub counts : record { regions = so .regions + 1; parameters = so .parameters; items = so .items; tolerances = so .tolerances; memory = so .memory + r .length } ≡ next
+  pub counts : record { regions = so .regions + 1; parameters = so .parameters; items = so .items; tolerances = so .tolerances; releases = so .releases; memory = so .memory + r .length } ≡ next
   pub some : 1 ≤ r .length
   pub ends : r .start + r .length ≤ 4294967296
   pub bits : r .rights ≤ 7
@@ -56,7 +56,7 @@ region-read r end so n next e =
 
 pub record ParameterRead (p : Parameter) (least : ℕ) (mapped : Bool) (so : Counts) (n : ℕ) (next : Counts) : Type 0 where
   pub size : 8 ≡ n
-  pub counts : record { regions = so .regions; parameters = so .parameters + 1; items = so .items; tolerances = so .tolerances; memory = so .memory } ≡ next
+  pub counts : record { regions = so .regions; parameters = so .parameters + 1; items = so .items; tolerances = so .tolerances; releases = so .releases; memory = so .memory } ≡ next
   pub some : 1 ≤ p .size
   pub most : p .size ≤ 56
   pub few : so .parameters < 64
@@ -85,7 +85,7 @@ parameter-read p least mapped so n next e =
 
 pub record ItemRead (i : Item) (tail : Bool) (least : ℕ) (so : Counts) (n : ℕ) (next : Counts) : Type 0 where
   pub size : 35 ≡ n
-  pub counts : record { regions = so .regions; parameters = so .parameters; items = so .items + 1; tolerances = so .tolerances; memory = so .memory } ≡ next
+  pub counts : record { regions = so .regions; parameters = so .parameters; items = so .items + 1; tolerances = so .tolerances; releases = so .releases; memory = so .memory } ≡ next
   pub some : 1 ≤ i .length
   pub most : i .length ≤ 32
   pub zeros : tail ≡ true
@@ -114,7 +114,7 @@ item-read i tail least so n next e =
 
 pub record ToleranceRead (x : ℕ) (so : Counts) (n : ℕ) (next : Counts) : Type 0 where
   pub size : 2 ≡ n
-  pub counts : record { regions = so .regions; parameters = so .parameters; items = so .items; tolerances = 1; memory = so .memory } ≡ next
+  pub counts : record { regions = so .regions; parameters = so .parameters; items = so .items; tolerances = 1; releases = so .releases; memory = so .memory } ≡ next
   pub most : x ≤ 3
 
 pub tolerance-read : (x : ℕ) (so : Counts) (n : ℕ) (next : Counts) → judgedTolerance x so ≡ Record n next → ToleranceRead x so n next
@@ -122,3 +122,17 @@ unfolding judgedTolerance
 tolerance-read x so n next e =
     let p = passed _ bad-record e in
     record { size = same-size (p .1); counts = same-counts (p .1); most = ltb-false 3 x (p .0) }
+
+pub record ReleaseRead (x : ℕ) (so : Counts) (n : ℕ) (next : Counts) : Type 0 where
+  pub size : 2 ≡ n
+  pub counts : record { regions = so .regions; parameters = so .parameters; items = so .items; tolerances = so .tolerances; releases = 1; memory = so .memory } ≡ next
+  pub some : 1 ≤ x
+  pub most : x ≤ 2
+
+pub release-read : (x : ℕ) (so : Counts) (n : ℕ) (next : Counts) → judgedRelease x so ≡ Record n next → ReleaseRead x so n next
+unfolding judgedRelease
+release-read x so n next e =
+    let p₁ = passed _ bad-record e in
+    let p₂ = passed _ bad-record (p₁ .1) in
+    let z = eqb-false x 0 (p₁ .0) in
+    record { size = same-size (p₂ .1); counts = same-counts (p₂ .1); some = omega arith; most = ltb-false 2 x (p₂ .0) }

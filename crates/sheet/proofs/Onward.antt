@@ -4,6 +4,7 @@ use mathlib.Core.Logic.{⊎-elim}
 use mathlib.Core.Path.{_≡_, refl, sym, ap, subst, _∙_}
 use mathlib.Core.List.{List}
 use Prim.Native.Nat.{ℕ, _+_, _-_, _*_, _≤_}
+use native.Mathlib.Nat.{le-antisymm}
 use native.Mathlib.Omega.{arith}
 use borrow.Author.Tests.{eqb-false, ltb-false, leb-true, eq-eqb, ne-eqb, not-false}
 use lib.Dec.{eqb, ltb}
@@ -14,13 +15,13 @@ use Rattle.regions.specs.Apart.{Apart}
 use Rattle.regions.specs.Region.{regionAt, regionsOf}
 use Rattle.regions.proofs.Apart.{apart-listed}
 use Rattle.sheet.specs.Kinds.{isKind, isLink, lengthFits, sizeOf, misplacedOf}
-use Rattle.sheet.specs.Reading.{linkOf, regionOf, parameterOf, itemOf, toleranceOf, bodyOf, recordOf}
+use Rattle.sheet.specs.Reading.{linkOf, regionOf, parameterOf, itemOf, toleranceOf, releaseOf, bodyOf, recordOf}
 use Rattle.sheet.specs.Sound.{Sound, Counted, Standing, behind}
 use Rattle.sheet.specs.Walk.{none, placeOf}
 use Rattle.sheet.specs.declared.records.Counts.{Counts}
 use Rattle.sheet.specs.declared.records.Reading.the-variants.{Record}
-use Rattle.sheet.proofs.Judged.{bad-record, same-size, same-counts, region-read, parameter-read, item-read, tolerance-read}
-use Rattle.sheet.proofs.Steps.{step-link, step-region, step-parameter, step-item, step-tolerance}
+use Rattle.sheet.proofs.Judged.{bad-record, same-size, same-counts, region-read, parameter-read, item-read, tolerance-read, release-read}
+use Rattle.sheet.proofs.Steps.{step-link, step-region, step-parameter, step-item, step-tolerance, step-release}
 
 -- the regions that were counted are ordered and apart
 pub sound-apart : (s : List ℕ) (at : ℕ) (so : Counts) → Sound s at so → Apart 0 (regionsOf s (so .regions))
@@ -51,45 +52,44 @@ count-zero kind k n e f =
     let l = ltb-false 0 n (sym (ap (λ (b : Bool). b && ltb 0 n) (eq-eqb kind k e)) ∙ f) in
     omega arith
 
--- what a record behind the link record that is in its place tells
+-- what a record behind the link record that is in its place tells: no record stands yet of what comes behind it
 pub in-place : (kind : ℕ) (so : Counts) → misplacedOf false kind so ≡ false
-    → (isLink kind ≡ false) × (kind ≡ 2 → so .parameters ≡ 0) × (kind ≡ 2 → so .items ≡ 0) × (kind ≡ 2 → so .tolerances ≡ 0)
-    × (kind ≡ 3 → so .items ≡ 0) × (kind ≡ 3 → so .tolerances ≡ 0) × (kind ≡ 4 → so .tolerances ≡ 0) × (kind ≡ 6 → so .tolerances ≡ 0)
+    → (isLink kind ≡ false) × (kind ≡ 2 → so .parameters + so .items + so .tolerances + so .releases ≡ 0)
+    × (kind ≡ 3 → so .items + so .tolerances + so .releases ≡ 0) × (kind ≡ 4 → so .tolerances + so .releases ≡ 0)
+    × (kind ≡ 6 → so .tolerances + so .releases ≡ 0) × (kind ≡ 7 → so .releases ≡ 0)
 unfolding misplacedOf
 in-place kind so m =
     let a = isLink kind in
-    let b = eqb kind 2 && ltb 0 (so .parameters) in
-    let c = eqb kind 2 && ltb 0 (so .items) in
-    let d = eqb kind 2 && ltb 0 (so .tolerances) in
-    let e = eqb kind 3 && ltb 0 (so .items) in
-    let f = eqb kind 3 && ltb 0 (so .tolerances) in
-    let g = eqb kind 4 && ltb 0 (so .tolerances) in
-    let o₁ = or-false (a || b || c || d || e || f || g) _ m in
-    let o₂ = or-false (a || b || c || d || e || f) g (o₁ .0) in
-    let o₃ = or-false (a || b || c || d || e) f (o₂ .0) in
-    let o₄ = or-false (a || b || c || d) e (o₃ .0) in
-    let o₅ = or-false (a || b || c) d (o₄ .0) in
-    let o₆ = or-false (a || b) c (o₅ .0) in
-    let o₇ = or-false a b (o₆ .0) in (
-      o₇ .0,
-      λ z. count-zero kind 2 _ z (o₇ .1),
-      λ z. count-zero kind 2 _ z (o₆ .1),
+    let b = eqb kind 2 && ltb 0 (so .parameters + so .items + so .tolerances + so .releases) in
+    let c = eqb kind 3 && ltb 0 (so .items + so .tolerances + so .releases) in
+    let d = eqb kind 4 && ltb 0 (so .tolerances + so .releases) in
+    let e = eqb kind 6 && ltb 0 (so .tolerances + so .releases) in
+    let o₁ = or-false (a || b || c || d || e) _ m in
+    let o₂ = or-false (a || b || c || d) e (o₁ .0) in
+    let o₃ = or-false (a || b || c) d (o₂ .0) in
+    let o₄ = or-false (a || b) c (o₃ .0) in
+    let o₅ = or-false a b (o₄ .0) in (
+      o₅ .0,
       λ z. count-zero kind 2 _ z (o₅ .1),
       λ z. count-zero kind 3 _ z (o₄ .1),
-      λ z. count-zero kind 3 _ z (o₃ .1),
-      λ z. count-zero kind 4 _ z (o₂ .1),
-      λ z. count-zero kind 6 _ z (o₁ .1),
+      λ z. count-zero kind 4 _ z (o₃ .1),
+      λ z. count-zero kind 6 _ z (o₂ .1),
+      λ z. count-zero kind 7 _ z (o₁ .1),
     )
 
+past : (k kind : ℕ) → k ≤ kind → (kind ≡ k → ⊥) → k + 1 ≤ kind
+past k kind from other = omega arith
+
 -- the kind that is left where the others are not
-pub last-kind : (kind : ℕ) → isKind kind ≡ true → (kind ≡ 0 → ⊥) → isLink kind ≡ false → (kind ≡ 2 → ⊥) → (kind ≡ 3 → ⊥) → (kind ≡ 4 → ⊥) → kind ≡ 6
+pub last-kind : (kind : ℕ) → isKind kind ≡ true → (kind ≡ 0 → ⊥) → isLink kind ≡ false → (kind ≡ 2 → ⊥) → (kind ≡ 3 → ⊥) → (kind ≡ 4 → ⊥) → (kind ≡ 6 → ⊥)
+    → kind ≡ 7
 unfolding isKind
-last-kind kind known n₀ n₁ n₂ n₃ n₄ =
-    let most = leb-true kind 6 known in
+last-kind kind known n₀ n₁ n₂ n₃ n₄ n₆ =
     let o = or-false (eqb kind 1) (eqb kind 5) n₁ in
     let no₁ = eqb-false kind 1 (o .0) in
     let no₅ = eqb-false kind 5 (o .1) in
-    omega arith
+    let three = past 2 kind (past 1 kind (past 0 kind (omega arith) n₀) no₁) n₂ in
+    le-antisymm (leb-true kind 7 known) (past 6 kind (past 5 kind (past 4 kind (past 3 kind three n₃) n₄) no₅) n₆)
 
 -- a link record is no end record
 pub link-begins : (kind : ℕ) → isLink kind ≡ true → kind ≡ 0 → ⊥
@@ -129,8 +129,7 @@ module _ (s rest : List ℕ) (so : Counts) (n : ℕ) (next : Counts) (st : Stand
         let size : sizeOf (getD rest 0 0) ≡ 10 = pick-key 0 _ _ kind refl ∙ pick-no _ _ (o .0) ∙ pick-eq _ _ kind in (
           omega (arith, q .size),
           subst (λ (k : ℕ). k ≤ length rest) (size ∙ q .size) fits,
-          step-region s (placeOf s rest) so (st .sound) first here n next
-              (o .1 kind) (o .2 kind) (o .3 kind) q,
+          step-region s (placeOf s rest) so (st .sound) first here n next (o .1 kind) q,
         )
 
     later-parameter : getD rest 0 0 ≡ 3 → parameterOf s rest so ≡ Record n next → Goes s rest n next
@@ -141,7 +140,7 @@ module _ (s rest : List ℕ) (so : Counts) (n : ℕ) (next : Counts) (st : Stand
         let size : sizeOf (getD rest 0 0) ≡ 8 = pick-key 0 _ _ kind refl ∙ pick-no _ _ (o .0) ∙ pick-key 2 _ _ kind refl ∙ pick-eq _ _ kind in (
           omega (arith, q .size),
           subst (λ (k : ℕ). k ≤ length rest) (size ∙ q .size) fits,
-          step-parameter s (placeOf s rest) so (st .sound) first here n next (o .4 kind) (o .5 kind) q,
+          step-parameter s (placeOf s rest) so (st .sound) first here n next (o .2 kind) q,
         )
 
     later-item : getD rest 0 0 ≡ 4 → sizeOf (getD rest 0 0) ≡ 35 → itemOf s rest so ≡ Record n next → Goes s rest n next
@@ -149,14 +148,21 @@ module _ (s rest : List ℕ) (so : Counts) (n : ℕ) (next : Counts) (st : Stand
     later-item kind size body =
         let o = in-place (getD rest 0 0) so m in
         let q = item-read _ _ _ so n next (rw (st .part) at body) in
-        (omega (arith, q .size), subst (λ (k : ℕ). k ≤ length rest) (size ∙ q .size) fits, step-item s (placeOf s rest) so (st .sound) first here n next (o .6 kind) q)
+        (omega (arith, q .size), subst (λ (k : ℕ). k ≤ length rest) (size ∙ q .size) fits, step-item s (placeOf s rest) so (st .sound) first here n next (o .3 kind) q)
 
     later-tolerance : getD rest 0 0 ≡ 6 → sizeOf (getD rest 0 0) ≡ 2 → toleranceOf rest so ≡ Record n next → Goes s rest n next
     unfolding toleranceOf
     later-tolerance kind size body =
         let o = in-place (getD rest 0 0) so m in
         let q = tolerance-read _ so n next (rw (st .part) at body) in
-        (omega (arith, q .size), subst (λ (k : ℕ). k ≤ length rest) (size ∙ q .size) fits, step-tolerance s (placeOf s rest) so (st .sound) first here n next (o .7 kind) q)
+        (omega (arith, q .size), subst (λ (k : ℕ). k ≤ length rest) (size ∙ q .size) fits, step-tolerance s (placeOf s rest) so (st .sound) first here n next (o .4 kind) q)
+
+    later-release : getD rest 0 0 ≡ 7 → sizeOf (getD rest 0 0) ≡ 2 → releaseOf rest so ≡ Record n next → Goes s rest n next
+    unfolding releaseOf
+    later-release kind size body =
+        let o = in-place (getD rest 0 0) so m in
+        let q = release-read _ so n next (rw (st .part) at body) in
+        (omega (arith, q .size), subst (λ (k : ℕ). k ≤ length rest) (size ∙ q .size) fits, step-release s (placeOf s rest) so (st .sound) first here n next (o .5 kind) q)
 
     later-record : isKind (getD rest 0 0) ≡ true → (getD rest 0 0 ≡ 0 → ⊥) → bodyOf (getD rest 0 0) s rest so ≡ Record n next → Goes s rest n next
     unfolding bodyOf sizeOf
@@ -173,7 +179,12 @@ module _ (s rest : List ℕ) (so : Counts) (n : ℕ) (next : Counts) (st : Stand
         let c = sym (pick-ne _ _ n₂ ∙ pick-ne _ _ n₃) ∙ b in
         ⊎-elim
         (λ k₄. later-item k₄ (size ∙ pick-eq _ _ k₄) (sym (pick-eq _ _ k₄) ∙ c))
-        (λ n₄. later-tolerance (last-kind (getD rest 0 0) known n₀ n₁ n₂ n₃ n₄) (size ∙ pick-ne _ _ n₄) (sym (pick-ne _ _ n₄) ∙ c))
+        (λ n₄.
+        ⊎-elim
+        (λ k₆. later-tolerance k₆ (size ∙ pick-ne _ _ n₄) (sym (pick-ne _ _ n₄ ∙ pick-eq _ _ k₆) ∙ c))
+        (λ n₆.
+        later-release (last-kind (getD rest 0 0) known n₀ n₁ n₂ n₃ n₄ n₆) (size ∙ pick-ne _ _ n₄) (sym (pick-ne _ _ n₄ ∙ pick-ne _ _ n₆) ∙ c))
+        (eq-or-ne (getD rest 0 0) 6))
         (eq-or-ne (getD rest 0 0) 4))
         (eq-or-ne (getD rest 0 0) 3))
         (eq-or-ne (getD rest 0 0) 2)

@@ -22,7 +22,7 @@ use Rattle.sheet.specs.Reading.{tailOf}
 use Rattle.sheet.specs.Walk.{none}
 use Rattle.sheet.specs.Sound.{FineRegion, FineParameter, FineItem, Sound, behind}
 use Rattle.sheet.specs.declared.records.Counts.{Counts}
-use Rattle.sheet.proofs.Judged.{RegionRead, ParameterRead, ItemRead, ToleranceRead}
+use Rattle.sheet.proofs.Judged.{RegionRead, ParameterRead, ItemRead, ToleranceRead, ReleaseRead}
 
 -- a record read from the part that begins at its place is the record at that place
 pub region-there : (s : List ℕ) (at : ℕ) → regionFrom (drop at s) 0 ≡ regionFrom s at
@@ -54,9 +54,9 @@ one-more-pair P n below last i h =
     (lt-or-le (suc i) n)
 
 module _ (s : List ℕ) (at : ℕ) (so : Counts) (ok : Sound s at so) (first : lengthFits (getD s 0 0) (getD s 1 0) ≡ true) (here : at ≡ behind so) (n : ℕ) (next : Counts) where
-  pub step-region : so .parameters ≡ 0 → so .items ≡ 0 → so .tolerances ≡ 0 → RegionRead (regionFrom (drop at s) 0) (endBefore s so) so n next → Sound s (at + n) next
+  pub step-region : so .parameters + so .items + so .tolerances + so .releases ≡ 0 → RegionRead (regionFrom (drop at s) 0) (endBefore s so) so n next → Sound s (at + n) next
   unfolding endBefore
-  step-region np nk nt q =
+  step-region none-behind q =
       let there : regionFrom (drop at s) 0 ≡ regionAt s (so .regions) =
       region-there s at ∙ ap (regionFrom s) (let e : at ≡ 4 + 10 * so .regions = omega arith in e) in
       let len : regionFrom (drop at s) 0 .length ≡ regionAt s (so .regions) .length = ap (λ r. r .length) there in
@@ -66,7 +66,9 @@ module _ (s : List ℕ) (at : ℕ) (so : Counts) (ok : Sound s at so) (first : l
         few-parameters = ok .few-parameters;
         few-items = ok .few-items;
         few-tolerances = ok .few-tolerances;
-        tolerance-fine = λ t. absurd (let k : ⊥ = omega (arith, nt) in k);
+        tolerance-fine = λ t. absurd (let k : ⊥ = omega (arith, none-behind) in k);
+        few-releases = ok .few-releases;
+        release-fine = λ t. absurd (let k : ⊥ = omega (arith, none-behind) in k);
         regions-fine = one-more (λ i. FineRegion (regionAt s i)) (so .regions) (ok .regions-fine)
             (subst (λ r. FineRegion r) there (record { some = q .some; ends = q .ends; bits = q .bits }));
         regions-rise = one-more-pair (λ i. regionAt s i .start + regionAt s i .length ≤ regionAt s (suc i) .start) (so .regions) (ok .regions-rise)
@@ -80,18 +82,18 @@ module _ (s : List ℕ) (at : ℕ) (so : Counts) (ok : Sound s at so) (first : l
             ∙ ap (λ (m : ℕ). totalOf (regionsOf s (so .regions)) + m) len
             ∙ sym (total-more (regionAt s) (so .regions));
         memory-room = q .room;
-        parameters-fine = λ j h. absurd (let k : ⊥ = omega (arith, np) in k);
-        parameters-rise = λ j h. absurd (let k : ⊥ = omega (arith, np) in k);
-        items-fine = λ j h. absurd (let k : ⊥ = omega (arith, nk) in k);
-        items-rise = λ j h. absurd (let k : ⊥ = omega (arith, nk) in k);
+        parameters-fine = λ j h. absurd (let k : ⊥ = omega (arith, none-behind) in k);
+        parameters-rise = λ j h. absurd (let k : ⊥ = omega (arith, none-behind) in k);
+        items-fine = λ j h. absurd (let k : ⊥ = omega (arith, none-behind) in k);
+        items-rise = λ j h. absurd (let k : ⊥ = omega (arith, none-behind) in k);
       })
 
-  pub step-parameter : so .items ≡ 0 → so .tolerances ≡ 0
+  pub step-parameter : so .items + so .tolerances + so .releases ≡ 0
       → ParameterRead (parameterFrom (drop at s) 0) (leastNumber s so)
       (spanHas (regionsOf s (so .regions)) Mapped (parameterFrom (drop at s) 0 .address) (parameterFrom (drop at s) 0 .size)) so n next
       → Sound s (at + n) next
   unfolding leastNumber
-  step-parameter nk nt q =
+  step-parameter none-behind q =
       let r = so .regions in
       let p = so .parameters in
       let there : parameterFrom (drop at s) 0 ≡ parameterAt s r p =
@@ -102,7 +104,9 @@ module _ (s : List ℕ) (at : ℕ) (so : Counts) (ok : Sound s at so) (first : l
         few-parameters = omega (arith, q .few);
         few-items = ok .few-items;
         few-tolerances = ok .few-tolerances;
-        tolerance-fine = λ t. absurd (let k : ⊥ = omega (arith, nt) in k);
+        tolerance-fine = λ t. absurd (let k : ⊥ = omega (arith, none-behind) in k);
+        few-releases = ok .few-releases;
+        release-fine = λ t. absurd (let k : ⊥ = omega (arith, none-behind) in k);
         regions-fine = ok .regions-fine;
         regions-rise = ok .regions-rise;
         memory-sum = ok .memory-sum;
@@ -115,13 +119,13 @@ module _ (s : List ℕ) (at : ℕ) (so : Counts) (ok : Sound s at so) (first : l
             subst (λ j. parameterAt s r (p - 1) .number < parameterAt s r j .number) e
             (subst (λ x. parameterAt s r (p - 1) .number < x .number) there
             (let m = pick-ne {m = p} {n = 0} 0 (parameterAt s r (p - 1) .number + 1) z in omega (arith, q .rises))));
-        items-fine = λ j h. absurd (let k : ⊥ = omega (arith, nk) in k);
-        items-rise = λ j h. absurd (let k : ⊥ = omega (arith, nk) in k);
+        items-fine = λ j h. absurd (let k : ⊥ = omega (arith, none-behind) in k);
+        items-rise = λ j h. absurd (let k : ⊥ = omega (arith, none-behind) in k);
       })
 
-  pub step-item : so .tolerances ≡ 0 → ItemRead (itemFrom (drop at s) 0) (allZero (tailOf (drop at s))) (leastCode s so) so n next → Sound s (at + n) next
+  pub step-item : so .tolerances + so .releases ≡ 0 → ItemRead (itemFrom (drop at s) 0) (allZero (tailOf (drop at s))) (leastCode s so) so n next → Sound s (at + n) next
   unfolding leastCode
-  step-item nt q =
+  step-item none-behind q =
       let r = so .regions in
       let p = so .parameters in
       let k = so .items in
@@ -134,7 +138,9 @@ module _ (s : List ℕ) (at : ℕ) (so : Counts) (ok : Sound s at so) (first : l
         few-parameters = ok .few-parameters;
         few-items = omega (arith, q .few);
         few-tolerances = ok .few-tolerances;
-        tolerance-fine = λ t. absurd (let k : ⊥ = omega (arith, nt) in k);
+        tolerance-fine = λ t. absurd (let k : ⊥ = omega (arith, none-behind) in k);
+        few-releases = ok .few-releases;
+        release-fine = λ t. absurd (let k : ⊥ = omega (arith, none-behind) in k);
         regions-fine = ok .regions-fine;
         regions-rise = ok .regions-rise;
         memory-sum = ok .memory-sum;
@@ -149,8 +155,8 @@ module _ (s : List ℕ) (at : ℕ) (so : Counts) (ok : Sound s at so) (first : l
             (let m = pick-ne {m = k} {n = 0} 0 (itemAt s r p (k - 1) .code + 1) z in omega (arith, q .rises)));
       })
 
-  pub step-tolerance : so .tolerances ≡ 0 → ToleranceRead (getD (drop at s) 1 0) so n next → Sound s (at + n) next
-  step-tolerance nt q =
+  pub step-tolerance : so .tolerances + so .releases ≡ 0 → ToleranceRead (getD (drop at s) 1 0) so n next → Sound s (at + n) next
+  step-tolerance none-behind q =
       let there : getD (drop at s) 1 0 ≡ getD s (5 + 10 * so .regions + 8 * so .parameters + 35 * so .items) 0 =
       getD-drop at s 1 0 ∙ ap (λ (i : ℕ). getD s i 0) (let e : at + 1 ≡ 5 + 10 * so .regions + 8 * so .parameters + 35 * so .items = omega arith in e) in
       subst (λ (c : Counts). Sound s (at + n) c) (q .counts) (record {
@@ -160,6 +166,32 @@ module _ (s : List ℕ) (at : ℕ) (so : Counts) (ok : Sound s at so) (first : l
         few-items = ok .few-items;
         few-tolerances = omega arith;
         tolerance-fine = λ t. omega (arith, q .most, there);
+        few-releases = ok .few-releases;
+        release-fine = λ t. absurd (let k : ⊥ = omega (arith, none-behind) in k);
+        regions-fine = ok .regions-fine;
+        regions-rise = ok .regions-rise;
+        memory-sum = ok .memory-sum;
+        memory-room = ok .memory-room;
+        parameters-fine = ok .parameters-fine;
+        parameters-rise = ok .parameters-rise;
+        items-fine = ok .items-fine;
+        items-rise = ok .items-rise;
+      })
+
+  pub step-release : so .releases ≡ 0 → ReleaseRead (getD (drop at s) 1 0) so n next → Sound s (at + n) next
+  step-release none-behind q =
+      let place = 5 + 10 * so .regions + 8 * so .parameters + 35 * so .items + 2 * so .tolerances in
+      let there : getD (drop at s) 1 0 ≡ getD s place 0 =
+      getD-drop at s 1 0 ∙ ap (λ (i : ℕ). getD s i 0) (let e : at + 1 ≡ place = omega arith in e) in
+      subst (λ (c : Counts). Sound s (at + n) c) (q .counts) (record {
+        begun = inr (omega (arith, q .size), first);
+        few-regions = ok .few-regions;
+        few-parameters = ok .few-parameters;
+        few-items = ok .few-items;
+        few-tolerances = ok .few-tolerances;
+        tolerance-fine = ok .tolerance-fine;
+        few-releases = omega arith;
+        release-fine = λ t. (omega (arith, q .some, there), omega (arith, q .most, there));
         regions-fine = ok .regions-fine;
         regions-rise = ok .regions-rise;
         memory-sum = ok .memory-sum;
@@ -179,6 +211,8 @@ step-link s ok first = record {
   few-items = ok .few-items;
   few-tolerances = ok .few-tolerances;
   tolerance-fine = ok .tolerance-fine;
+  few-releases = ok .few-releases;
+  release-fine = ok .release-fine;
   regions-fine = ok .regions-fine;
   regions-rise = ok .regions-rise;
   memory-sum = ok .memory-sum;
@@ -200,6 +234,8 @@ start-sound s =
       few-items = omega arith;
       few-tolerances = omega arith;
       tolerance-fine = λ t. absurd (let k : ⊥ = omega arith in k);
+      few-releases = omega arith;
+      release-fine = λ t. absurd (let k : ⊥ = omega arith in k);
       regions-fine = λ i h. absurd (let k : ⊥ = omega arith in k);
       regions-rise = λ i h. absurd (let k : ⊥ = omega arith in k);
       memory-sum = refl;

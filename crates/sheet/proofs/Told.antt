@@ -53,26 +53,39 @@ digit x y z b c h l =
     let above : (x + b * (y + c * z)) / b ≡ x / b + (y + c * z) = add-mul-div-left x (y + c * z) (omega arith) in
     ap (λ (q : ℕ). q % c) (let e : (x + b * (y + c * z)) / b ≡ y + c * z = omega arith in e) ∙ add-mul-mod-self-left y c z ∙ mod-eq-of-lt l
 
-pub tells-counts : (s : List ℕ) (so : Counts) → so .regions ≤ 255 → so .parameters ≤ 255 → so .items ≤ 255 → so .tolerances ≤ 255 → so .memory ≤ 16777215
-    → tells s (countsNumber so) ≡ Valid (layoutOf s so)
+pub tells-counts : (s : List ℕ) (so : Counts) → so .regions ≤ 255 → so .parameters ≤ 255 → so .items ≤ 255 → so .tolerances ≤ 15 → so .releases ≤ 15
+    → so .memory ≤ 16777215 → tells s (countsNumber so) ≡ Valid (layoutOf s so)
 unfolding tells countsNumber countsIn
-tells-counts s so few-r few-p few-k few-t room =
+tells-counts s so few-r few-p few-k few-t few-v room =
     let r = so .regions in
     let p = so .parameters in
     let k = so .items in
     let t = so .tolerances in
+    let v = so .releases in
     let m = so .memory in
-    let n = r + 256 * p + 65536 * k + 16777216 * t + 4294967296 * m in
-    let e₁ : n ≡ r + 256 * (p + 256 * (k + 256 * (t + 256 * m))) = omega arith in
-    let e₂ : n ≡ r + 256 * p + 65536 * (k + 256 * (t + 256 * m)) = omega arith in
-    let e₃ : n ≡ r + 256 * p + 65536 * k + 16777216 * (t + 256 * m) = omega arith in
-    let e₄ : n ≡ r + 256 * p + 65536 * k + 16777216 * t + 4294967296 * (m + 16777216 * 0) = omega arith in
+    let n = r + 256 * p + 65536 * k + 16777216 * t + 268435456 * v + 4294967296 * m in
+    let e₁ : n ≡ r + 256 * (p + 256 * (k + 256 * (t + 16 * (v + 16 * m)))) = omega arith in
+    let e₂ : n ≡ r + 256 * p + 65536 * (k + 256 * (t + 16 * (v + 16 * m))) = omega arith in
+    let e₃ : n ≡ r + 256 * p + 65536 * k + 16777216 * (t + 16 * (v + 16 * m)) = omega arith in
+    let e₄ : n ≡ r + 256 * p + 65536 * k + 16777216 * t + 268435456 * (v + 16 * m) = omega arith in
+    let e₅ : n ≡ r + 256 * p + 65536 * k + 16777216 * t + 268435456 * v + 4294967296 * (m + 16777216 * 0) = omega arith in
     let regions : n % 256 ≡ r = omega arith in
-    let parameters : n / 256 % 256 ≡ p = ap (λ (x : ℕ). x / 256 % 256) e₁ ∙ digit r p (k + 256 * (t + 256 * m)) 256 256 (omega arith) (omega arith) in
-    let items : n / 65536 % 256 ≡ k = ap (λ (x : ℕ). x / 65536 % 256) e₂ ∙ digit (r + 256 * p) k (t + 256 * m) 65536 256 (omega arith) (omega arith) in
-    let tolerances : n / 16777216 % 256 ≡ t =
-    ap (λ (x : ℕ). x / 16777216 % 256) e₃ ∙ digit (r + 256 * p + 65536 * k) t m 16777216 256 (omega arith) (omega arith) in
+    let parameters : n / 256 % 256 ≡ p = ap (λ (x : ℕ). x / 256 % 256) e₁ ∙ digit r p (k + 256 * (t + 16 * (v + 16 * m))) 256 256 (omega arith) (omega arith) in
+    let items : n / 65536 % 256 ≡ k = ap (λ (x : ℕ). x / 65536 % 256) e₂ ∙ digit (r + 256 * p) k (t + 16 * (v + 16 * m)) 65536 256 (omega arith) (omega arith) in
+    let tolerances : n / 16777216 % 16 ≡ t =
+    ap (λ (x : ℕ). x / 16777216 % 16) e₃ ∙ digit (r + 256 * p + 65536 * k) t (v + 16 * m) 16777216 16 (omega arith) (omega arith) in
+    let releases : n / 268435456 % 16 ≡ v =
+    ap (λ (x : ℕ). x / 268435456 % 16) e₄ ∙ digit (r + 256 * p + 65536 * k + 16777216 * t) v m 268435456 16 (omega arith) (omega arith) in
     let memory : n / 4294967296 % 16777216 ≡ m =
-    ap (λ (x : ℕ). x / 4294967296 % 16777216) e₄ ∙ digit (r + 256 * p + 65536 * k + 16777216 * t) m 0 4294967296 16777216 (omega arith) (omega arith) in
+    ap (λ (x : ℕ). x / 4294967296 % 16777216) e₅
+    ∙ digit (r + 256 * p + 65536 * k + 16777216 * t + 268435456 * v) m 0 4294967296 16777216 (omega arith) (omega arith) in
     pick-eq _ _ (let none : n / 72057594037927936 ≡ 0 = div-eq-of-lt (omega arith) in none)
-    ∙ λ i. Valid (layoutOf s (record { regions = regions i; parameters = parameters i; items = items i; tolerances = tolerances i; memory = memory i }))
+    ∙ λ i.
+    Valid (layoutOf s (record {
+      regions = regions i;
+      parameters = parameters i;
+      items = items i;
+      tolerances = tolerances i;
+      releases = releases i;
+      memory = memory i;
+    }))

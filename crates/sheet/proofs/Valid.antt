@@ -6,6 +6,8 @@
 --     valid-item        an ID item that was found has a length in range
 --     item-inside       and its octets stand inside the sheet
 --     tolerance-small   at most 3 failures in a row are tolerated
+--     release-some      the release of the drive rules is 1 at least
+--     release-small     and 2 at most
 --     length-least      L is at least 8
 --     length-most       and at most 64
 --     length-short      and 16 in the short type
@@ -28,7 +30,7 @@ use Rattle.sheet.specs.Entries.{parameterAt, parametersOf, itemFrom, ite
 use Rattle.sheet.specs.Kinds.{isLength, lengthFits, misplacedOf}
 use Rattle.sheet.specs.Reading.{recordOf}
 use Rattle.sheet.specs.Sound.{Sound, Counted, Standing, FineParameter, FineItem, behind, countsOf}
-use Rattle.sheet.specs.Walk.{none, formOf, toleranceIn, placeOf, layoutOf, endedOf, onward, walkOf, verdictOf}
+use Rattle.sheet.specs.Walk.{none, formOf, toleranceIn, releaseIn, placeOf, layoutOf, endedOf, onward, walkOf, verdictOf}
 use Rattle.sheet.specs.declared.entries.Parameter.{Parameter}
 use Rattle.sheet.specs.declared.entries.Item.{Item}
 use Rattle.sheet.specs.declared.entries.SoughtParameter.{SoughtParameter}
@@ -54,6 +56,7 @@ pub record ValidSheet (s : List ℕ) (lay : Layout) : Type 0 where
   pub octets : length s ≡ behind (countsOf lay) + 1
   pub sound : Sound s (behind (countsOf lay)) (countsOf lay)
   pub tolerance : lay .tolerance ≡ toleranceIn s (countsOf lay)
+  pub release : lay .release ≡ releaseIn s (countsOf lay)
 
 no-fault : {f : Fault} {p : ℕ} {lay : Layout} → Faulty f p ≡ Valid lay → ⊥
 no-fault e = let z : _≡_ {A = ℕ} 0 1 = cc in omega arith
@@ -86,6 +89,7 @@ module _ (s rest : List ℕ) (so : Counts) (st : Standing s rest so) (lay : Layo
         octets = omega (arith, h .0);
         sound = subst (λ (at : ℕ). Sound s at so) (h .0) (st .sound);
         tolerance = refl;
+        release = refl;
       }))
       (st .sound .begun)
 
@@ -232,3 +236,21 @@ tolerance-small s lay v =
     (λ (z : lay .tolerances ≡ 0). let e = ok .tolerance ∙ pick-eq _ _ z in omega arith)
     (λ (z : lay .tolerances ≡ 0 → ⊥). let e = ok .tolerance ∙ pick-ne _ _ z in let f = ok .sound .tolerance-fine (omega arith) in omega arith)
     (eq-or-ne (lay .tolerances) 0)
+
+release-fits : (s : List ℕ) (lay : Layout) → verdictOf s ≡ Valid lay → (1 ≤ lay .release) × (lay .release ≤ 2)
+unfolding releaseIn
+release-fits s lay v =
+    let ok = valid-sheet s lay v in
+    ⊎-elim
+    (λ (z : lay .releases ≡ 0). let e = ok .release ∙ pick-eq _ _ z in (omega arith, omega arith))
+    (λ (z : lay .releases ≡ 0 → ⊥).
+    let e = ok .release ∙ pick-ne _ _ z in
+    let f = ok .sound .release-fine (omega arith) in
+    (omega (arith, f .0), omega (arith, f .1)))
+    (eq-or-ne (lay .releases) 0)
+
+pub release-some : (s : List ℕ) (lay : Layout) → verdictOf s ≡ Valid lay → 1 ≤ lay .release
+release-some s lay v = release-fits s lay v .0
+
+pub release-small : (s : List ℕ) (lay : Layout) → verdictOf s ≡ Valid lay → lay .release ≤ 2
+release-small s lay v = release-fits s lay v .1

@@ -15,7 +15,7 @@ use Rattle.sheet.specs.declared.walk.Verdict.the-variants.{Valid, Faulty
 
 -- for a whole sheet its counts, each in room of its own
 unfoldable pub countsNumber : Counts → ℕ
-countsNumber so = so .regions + 256 * so .parameters + 65536 * so .items + 16777216 * so .tolerances + 4294967296 * so .memory
+countsNumber so = so .regions + 256 * so .parameters + 65536 * so .items + 16777216 * so .tolerances + 268435456 * so .releases + 4294967296 * so .memory
 
 -- and for a fault its place, with the fault's number above every count, at 2^56
 unfoldable pub failedNumber : Fault → ℕ → ℕ
@@ -27,7 +27,8 @@ countsIn n = record {
   regions = n % 256;
   parameters = n / 256 % 256;
   items = n / 65536 % 256;
-  tolerances = n / 16777216 % 256;
+  tolerances = n / 16777216 % 16;
+  releases = n / 268435456 % 16;
   memory = n / 4294967296 % 16777216;
 }
 

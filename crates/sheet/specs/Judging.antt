@@ -26,6 +26,7 @@ judgedRegion r end so =
       parameters = so .parameters;
       items = so .items;
       tolerances = so .tolerances;
+      releases = so .releases;
       memory = so .memory + r .length;
     })))))))
 
@@ -42,6 +43,7 @@ judgedParameter p least mapped so =
       parameters = so .parameters + 1;
       items = so .items;
       tolerances = so .tolerances;
+      releases = so .releases;
       memory = so .memory;
     }))))))
 
@@ -58,6 +60,7 @@ judgedItem i tail least so =
       parameters = so .parameters;
       items = so .items + 1;
       tolerances = so .tolerances;
+      releases = so .releases;
       memory = so .memory;
     }))))))
 
@@ -70,5 +73,20 @@ judgedTolerance n so =
       parameters = so .parameters;
       items = so .items;
       tolerances = 1;
+      releases = so .releases;
       memory = so .memory;
     }))
+
+-- kind 07, of request 13: "body one octet 1 or 2"; it stands once
+unfoldable pub judgedRelease : ℕ → Counts → Reading
+judgedRelease n so =
+    pick (eqb n 0) (Bad Range)
+    (pick (ltb 2 n) (Bad Range)
+    (Record 2 (record {
+      regions = so .regions;
+      parameters = so .parameters;
+      items = so .items;
+      tolerances = so .tolerances;
+      releases = 1;
+      memory = so .memory;
+    })))

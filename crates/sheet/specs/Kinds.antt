@@ -12,9 +12,10 @@ use Rattle.sheet.specs.declared.records.Counts.{Counts}
 unfoldable pub isLength : ℕ → Bool
 isLength l = eqb l 8 || eqb l 16 || eqb l 32 || eqb l 48 || eqb l 64
 
--- the kinds that there are: 00 end, 01 link, 02 region, 03 parameter, 04 ID item; request 7: 05 link of the short type; request 9: 06 tolerance
+-- the kinds that there are: 00 end, 01 link, 02 region, 03 parameter, 04 ID item; request 7: 05 link of the short type; request 9: 06 tolerance; request
+-- 13: 07 release
 unfoldable pub isKind : ℕ → Bool
-isKind kind = leb kind 6
+isKind kind = leb kind 7
 
 -- request 7: "A record of new kind 05, body as kind 01, .. stands in the link record's place"
 abbrev pub isLink : ℕ → Bool
@@ -28,18 +29,17 @@ lengthFits kind l = isLength l && (not (eqb kind 5) || eqb l 16)
 unfoldable pub sizeOf : ℕ → ℕ
 sizeOf kind = pick (eqb kind 0) 1 (pick (isLink kind) 4 (pick (eqb kind 2) 10 (pick (eqb kind 3) 8 (pick (eqb kind 4) 35 2))))
 
--- "The link record comes first and once; then regions, parameters, ID items, end"; request 9: the tolerance "after the ID items and at most once"
+-- "The link record comes first and once; then regions, parameters, ID items, end"; request 9: the tolerance "after the ID items and at most once"; request 13:
+-- the release "last before the end", at most once
 unfoldable pub misplacedOf : Bool → ℕ → Counts → Bool
 misplacedOf true kind so = not (isLink kind)
 misplacedOf false kind so =
     isLink kind
-    || (eqb kind 2 && ltb 0 (so .parameters))
-    || (eqb kind 2 && ltb 0 (so .items))
-    || (eqb kind 2 && ltb 0 (so .tolerances))
-    || (eqb kind 3 && ltb 0 (so .items))
-    || (eqb kind 3 && ltb 0 (so .tolerances))
-    || (eqb kind 4 && ltb 0 (so .tolerances))
-    || (eqb kind 6 && ltb 0 (so .tolerances))
+    || (eqb kind 2 && ltb 0 (so .parameters + so .items + so .tolerances + so .releases))
+    || (eqb kind 3 && ltb 0 (so .items + so .tolerances + so .releases))
+    || (eqb kind 4 && ltb 0 (so .tolerances + so .releases))
+    || (eqb kind 6 && ltb 0 (so .tolerances + so .releases))
+    || (eqb kind 7 && ltb 0 (so .releases))
 
 -- one past the last address of the region before; 0 where there is none
 unfoldable pub endBefore : List ℕ → Counts → ℕ

@@ -11,7 +11,7 @@ use Rattle.regions.specs.Region.{regionFrom, regionsOf}
 use Rattle.regions.specs.Search.{spanHas}
 use Rattle.regions.specs.declared.Right.the-variants.{Mapped}
 use Rattle.sheet.specs.Entries.{parameterFrom, itemFrom}
-use Rattle.sheet.specs.Judging.{judgedRegion, judgedParameter, judgedItem, judgedTolerance}
+use Rattle.sheet.specs.Judging.{judgedRegion, judgedParameter, judgedItem, judgedTolerance, judgedRelease}
 use Rattle.sheet.specs.Kinds.{isKind, isLink, lengthFits, sizeOf, misplacedOf, endBefore, leastNumber, leastCode}
 use Rattle.sheet.specs.declared.records.Counts.{Counts}
 use Rattle.sheet.specs.declared.records.Fault.the-variants.{Ended, Unknown, Misplaced, Range}
@@ -48,6 +48,10 @@ itemOf s rest so = judgedItem (itemFrom rest 0) (allZero (tailOf rest)) (leastCo
 unfoldable pub toleranceOf : List ℕ → Counts → Reading
 toleranceOf rest so = judgedTolerance (getD rest 1 0) so
 
+-- kind 07
+unfoldable pub releaseOf : List ℕ → Counts → Reading
+releaseOf rest so = judgedRelease (getD rest 1 0) so
+
 -- a whole record of a known kind in its place; the end record, kind 00, has no body
 unfoldable pub bodyOf : ℕ → List ℕ → List ℕ → Counts → Reading
 bodyOf kind s rest so =
@@ -56,7 +60,8 @@ bodyOf kind s rest so =
     (pick (eqb kind 2) (regionOf s rest so)
     (pick (eqb kind 3) (parameterOf s rest so)
     (pick (eqb kind 4) (itemOf s rest so)
-    (toleranceOf rest so)))))
+    (pick (eqb kind 6) (toleranceOf rest so)
+    (releaseOf rest so))))))
 
 -- "sheet ended before an end record (11), unknown kind (12), kind out of place (13), body cut short (11)", then the record's own checks
 unfoldable pub recordOf : List ℕ → List ℕ → Counts → Reading

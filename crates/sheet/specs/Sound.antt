@@ -38,7 +38,7 @@ pub record FineItem (i : Item) : Type 0 where
 
 -- the place behind the records that were counted
 abbrev pub behind : Counts → ℕ
-behind so = 4 + 10 * so .regions + 8 * so .parameters + 35 * so .items + 2 * so .tolerances
+behind so = 4 + 10 * so .regions + 8 * so .parameters + 35 * so .items + 2 * so .tolerances + 2 * so .releases
 
 -- the records counted in `so` are in order, and the next one begins at place `at`
 pub record Sound (s : List ℕ) (at : ℕ) (so : Counts) : Type 0 where
@@ -48,6 +48,10 @@ pub record Sound (s : List ℕ) (at : ℕ) (so : Counts) : Type 0 where
   pub few-items : so .items ≤ 32
   pub few-tolerances : so .tolerances ≤ 1
   pub tolerance-fine : 1 ≤ so .tolerances → getD s (5 + 10 * so .regions + 8 * so .parameters + 35 * so .items) 0 ≤ 3
+  pub few-releases : so .releases ≤ 1
+  pub release-fine : 1 ≤ so .releases
+      → (1 ≤ getD s (5 + 10 * so .regions + 8 * so .parameters + 35 * so .items + 2 * so .tolerances) 0)
+      × (getD s (5 + 10 * so .regions + 8 * so .parameters + 35 * so .items + 2 * so .tolerances) 0 ≤ 2)
   pub regions-fine : (i : ℕ) → i < so .regions → FineRegion (regionAt s i)
   pub regions-rise : (i : ℕ) → suc i < so .regions → regionAt s i .start + regionAt s i .length ≤ regionAt s (suc i) .start
   pub memory-sum : so .memory ≡ totalOf (regionsOf s (so .regions))
@@ -66,7 +70,7 @@ pub record Counted (s : List ℕ) (so : Counts) : Type 0 where
 
 -- the counts of a valid sheet, out of its layout: what the machine's searches lean on is that these records are in the sheet
 abbrev pub countsOf : Layout → Counts
-countsOf lay = record { regions = lay .regions; parameters = lay .parameters; items = lay .items; tolerances = lay .tolerances; memory = lay .memory }
+countsOf lay = record { regions = lay .regions; parameters = lay .parameters; items = lay .items; tolerances = lay .tolerances; releases = lay .releases; memory = lay .memory }
 
 -- the walk stands before `rest`, the last octets of the sheet `s`
 pub record Standing (s rest : List ℕ) (so : Counts) : Type 0 where

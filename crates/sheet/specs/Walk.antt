@@ -15,13 +15,22 @@ use Rattle.sheet.specs.declared.walk.Layout.{Layout}
 use Rattle.sheet.specs.declared.walk.Verdict.{Verdict}
 use Rattle.sheet.specs.declared.walk.Verdict.the-variants.{Valid, Faulty}
 
+abbrev pub counts : ℕ → ℕ → ℕ → ℕ → ℕ → ℕ → Counts
+counts regions parameters items tolerances releases memory =
+    record { regions = regions; parameters = parameters; items = items; tolerances = tolerances; releases = releases; memory = memory }
+
 -- before the first record
 abbrev pub none : Counts
-none = record { regions = 0; parameters = 0; items = 0; tolerances = 0; memory = 0 }
+none = counts 0 0 0 0 0 0
 
 -- request 9: the record behind the ID items "allows that many failures in a row, none without it"
 unfoldable pub toleranceIn : List ℕ → Counts → ℕ
 toleranceIn s so = pick (eqb (so .tolerances) 0) 0 (getD s (5 + 10 * so .regions + 8 * so .parameters + 35 * so .items) 0)
+
+-- request 13: the record behind that one "picks the rule; without it release 1 holds"
+unfoldable pub releaseIn : List ℕ → Counts → ℕ
+releaseIn s so =
+    pick (eqb (so .releases) 0) 1 (getD s (5 + 10 * so .regions + 8 * so .parameters + 35 * so .items + 2 * so .tolerances) 0)
 
 -- request 7: kind 05 in the link record's place selects the short type
 unfoldable pub formOf : ℕ → Form
@@ -39,6 +48,8 @@ layoutOf s so = record {
   items = so .items;
   tolerances = so .tolerances;
   tolerance = toleranceIn s so;
+  releases = so .releases;
+  release = releaseIn s so;
   memory = so .memory;
 }
 

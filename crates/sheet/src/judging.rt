@@ -6,7 +6,7 @@ use crate::records::Fault;
 use crate::records::Reading;
 use regions::Region;
 ghost use mathlib.Core.Path.{_≡_};
-ghost use Rattle.sheet.specs.Judging.{judgedRegion, judgedParameter, judgedItem, judgedTolerance};
+ghost use Rattle.sheet.specs.Judging.{judgedRegion, judgedParameter, judgedItem, judgedTolerance, judgedRelease};
 
 pub fn judge_region(region: Region, end: u64, so: Counts) -> Reading
     ensures { λ r. ⌜ r ≡ judgedRegion region end so ⌝ }
@@ -36,6 +36,7 @@ pub fn judge_region(region: Region, end: u64, so: Counts) -> Reading
             parameters: so.parameters,
             items: so.items,
             tolerances: so.tolerances,
+            releases: so.releases,
             memory: so.memory + region.length,
         },
     )
@@ -66,6 +67,7 @@ pub fn judge_parameter(parameter: Parameter, least: u32, mapped: bool, so: Count
             parameters: so.parameters + 1,
             items: so.items,
             tolerances: so.tolerances,
+            releases: so.releases,
             memory: so.memory,
         },
     )
@@ -96,6 +98,7 @@ pub fn judge_item(item: Item, tail: bool, least: u16, so: Counts) -> Reading
             parameters: so.parameters,
             items: so.items + 1,
             tolerances: so.tolerances,
+            releases: so.releases,
             memory: so.memory,
         },
     )
@@ -115,6 +118,30 @@ pub fn judge_tolerance(tolerance: u8, so: Counts) -> Reading
             parameters: so.parameters,
             items: so.items,
             tolerances: 1,
+            releases: so.releases,
+            memory: so.memory,
+        },
+    )
+}
+
+// Request 13's record, which stands once: the release of the drive rules.
+pub fn judge_release(release: u8, so: Counts) -> Reading
+    ensures { λ r. ⌜ r ≡ judgedRelease release so ⌝ }
+{
+    if release == 0 {
+        return Reading::Bad(Fault::Range);
+    }
+    if 2 < release {
+        return Reading::Bad(Fault::Range);
+    }
+    Reading::Record(
+        2,
+        Counts {
+            regions: so.regions,
+            parameters: so.parameters,
+            items: so.items,
+            tolerances: so.tolerances,
+            releases: 1,
             memory: so.memory,
         },
     )

@@ -23,7 +23,7 @@ pub fn length_fits(kind: u8, l: u8) -> bool
 pub fn is_kind(kind: u8) -> bool
     ensures { λ r. ⌜ r ≡ isKind kind ⌝ }
 {
-    kind <= 6
+    kind <= 7
 }
 
 // Whether a known kind is out of place: at the front all but a link record, behind it a link record and what should come before.
@@ -35,11 +35,12 @@ pub fn misplaced(first: bool, kind: u8, so: Counts) -> bool
     }
     match kind {
         1 => true,
-        2 => (0 < so.parameters) | (0 < so.items) | (0 < so.tolerances),
-        3 => (0 < so.items) | (0 < so.tolerances),
-        4 => 0 < so.tolerances,
+        2 => (0 < so.parameters) | (0 < so.items) | (0 < so.tolerances) | (0 < so.releases),
+        3 => (0 < so.items) | (0 < so.tolerances) | (0 < so.releases),
+        4 => (0 < so.tolerances) | (0 < so.releases),
         5 => true,
-        6 => 0 < so.tolerances,
+        6 => (0 < so.tolerances) | (0 < so.releases),
+        7 => 0 < so.releases,
         _ => false,
     }
 }

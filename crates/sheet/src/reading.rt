@@ -8,7 +8,7 @@ ghost use lib.ListN.{length, take, drop};
 ghost use Rattle.octets.specs.Parts.{allZero};
 ghost use Rattle.sheet.specs.Kinds.{sizeOf};
 ghost use Rattle.sheet.specs.Sound.{Counted};
-ghost use Rattle.sheet.specs.Reading.{whole, linkOf, regionOf, parameterOf, itemOf, toleranceOf, bodyOf, recordOf};
+ghost use Rattle.sheet.specs.Reading.{whole, linkOf, regionOf, parameterOf, itemOf, toleranceOf, releaseOf, bodyOf, recordOf};
 
 fn read_link(rest: &[u8], so: Counts) -> Reading
     ensures { λ r. ⌜ r ≡ whole 4 (now (rest .entry)) (linkOf (now (rest .entry)) so) ⌝ }
@@ -80,6 +80,15 @@ fn read_tolerance(rest: &[u8], so: Counts) -> Reading
     crate::judging::judge_tolerance(octets::octet(rest, 1), so)
 }
 
+fn read_release(rest: &[u8], so: Counts) -> Reading
+    ensures { λ r. ⌜ r ≡ whole 2 (now (rest .entry)) (releaseOf (now (rest .entry)) so) ⌝ }
+{
+    if rest.len() < 2 {
+        return Reading::Bad(Fault::Ended);
+    }
+    crate::judging::judge_release(octets::octet(rest, 1), so)
+}
+
 // A record of a known kind in its place. Each kind's own reading looks whether the record is whole, so that the kind is asked once.
 fn read_body(kind: u8, sheet: &[u8], rest: &[u8], so: Counts) -> Reading
     requires { ⌜ (1 ≤ length (now rest)) × Counted (now sheet) so ⌝ }
@@ -92,7 +101,8 @@ fn read_body(kind: u8, sheet: &[u8], rest: &[u8], so: Counts) -> Reading
         3 => read_parameter(sheet, rest, so),
         4 => read_item(sheet, rest, so),
         5 => read_link(rest, so),
-        _ => read_tolerance(rest, so),
+        6 => read_tolerance(rest, so),
+        _ => read_release(rest, so),
     }
 }
 

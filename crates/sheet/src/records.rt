@@ -19,6 +19,7 @@ pub struct Counts {
     pub parameters: u8,
     pub items: u8,
     pub tolerances: u8,
+    pub releases: u8,
     pub memory: u32,
 }
 

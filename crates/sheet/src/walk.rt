@@ -7,7 +7,7 @@ ghost use Prim.Native.Nat.{ℕ, _≤_, _<_, _-_};
 ghost use lib.ListN.{length, drop};
 ghost use Rattle.sheet.specs.Sound.{Standing};
 ghost use Rattle.sheet.specs.Handed.{countsNumber, failedNumber, faultOf, tells, failedAt};
-ghost use Rattle.sheet.specs.Walk.{formOf, toleranceIn, layoutOf, endedOf, walkOf, verdictOf};
+ghost use Rattle.sheet.specs.Walk.{counts, formOf, toleranceIn, releaseIn, layoutOf, endedOf, walkOf, verdictOf};
 
 // The types of PDU. A sheet picks one by the kind of its first record.
 pub enum Form {
@@ -25,7 +25,8 @@ fn form_of(kind: u8) -> Form
     Form::Enhanced
 }
 
-// What a valid sheet says: the type, the link record's three fields, the counts, how many failures in a row it tolerates, and the octets of memory.
+// What a valid sheet says: the type, the link record's three fields, the counts, how many failures in a row it tolerates, the release of the
+// drive rules, and the octets of memory.
 pub struct Layout {
     pub form: Form,
     pub l: u8,
@@ -36,6 +37,8 @@ pub struct Layout {
     pub items: u8,
     pub tolerances: u8,
     pub tolerance: u8,
+    pub releases: u8,
+    pub release: u8,
     pub memory: u32,
 }
 
@@ -58,6 +61,23 @@ fn tolerance_in(sheet: &[u8], so: Counts) -> u8
     )
 }
 
+// The release of the drive rules that a sheet picks: what its last record says, and 1 without it.
+fn release_in(sheet: &[u8], so: Counts) -> u8
+    ensures { λ r. ⌜ r ≡ releaseIn (now (sheet .entry)) so ⌝ }
+{
+    if so.releases == 0 {
+        return 1;
+    }
+    octets::octet(
+        sheet,
+        5
+            + 10 * (so.regions as usize)
+            + 8 * (so.parameters as usize)
+            + 35 * (so.items as usize)
+            + 2 * (so.tolerances as usize),
+    )
+}
+
 // The layout of a sheet whose records were counted.
 fn laid_out(sheet: &[u8], so: Counts) -> Layout
     ensures { λ r. ⌜ r ≡ layoutOf (now (sheet .entry)) so ⌝ }
@@ -72,6 +92,8 @@ fn laid_out(sheet: &[u8], so: Counts) -> Layout
         items: so.items,
         tolerances: so.tolerances,
         tolerance: tolerance_in(sheet, so),
+        releases: so.releases,
+        release: release_in(sheet, so),
         memory: so.memory,
     }
 }
@@ -82,12 +104,14 @@ const FAULT_FROM: u64 = 72057594037927936;
 // The counts of a whole sheet as one number. The walk takes and hands back what fits in registers and nothing else, so that it is compiled into a
 // loop and takes no stack from record to record.
 fn counted(so: Counts) -> u64
+    requires { ⌜ so .memory ≤ 65536 ⌝ }
     ensures { λ r. ⌜ r ≡ countsNumber so ⌝ }
 {
     so.regions as u64
         + 256 * (so.parameters as u64)
         + 65536 * (so.items as u64)
         + 16777216 * (so.tolerances as u64)
+        + 268435456 * (so.releases as u64)
         + 4294967296 * (so.memory as u64)
 }
 
@@ -112,7 +136,7 @@ fn fault_at(read: Reading, place: usize) -> u64
 
 // At the end record, which stands at a place of the sheet: nothing may stand behind it.
 fn ended(sheet: &[u8], at: usize, so: Counts) -> u64
-    requires { ⌜ (length (now sheet) ≤ 2048) × (at ≤ length (now sheet)) × (so .memory ≤ 65536) ⌝ }
+    requires { ⌜ (length (now sheet) ≤ 2048) × (at ≤ length (now sheet)) × (so .memory ≤ 65536) × (so .tolerances ≤ 1) × (so .releases ≤ 1) ⌝ }
     ensures { λ r. ⌜ tells (now (sheet .entry)) r ≡ endedOf (now (sheet .entry)) (drop at (now (sheet .entry))) so ⌝ }
 {
     let behind = at + 1;
@@ -122,13 +146,31 @@ fn ended(sheet: &[u8], at: usize, so: Counts) -> u64
     counted(so)
 }
 
-// From one record to the next: it calls itself on the part behind the record just read, which it is told by the place where that part begins.
-fn walk(whole: &&[u8], at: usize, so: Counts) -> u64
-    requires { ⌜ (at ≤ length (now (now whole))) × Standing (now (now whole)) (drop at (now (now whole))) so ⌝ }
-    ensures { λ r. ⌜ ((f : ℕ) → length (now (now (whole .entry))) - at < f → tells (now (now (whole .entry))) r ≡ walkOf f (now (now (whole .entry))) (drop at (now (now (whole .entry)))) so) ⌝ }
+// From one record to the next: it calls itself on the part behind the record just read, which it is told by the place where that part begins, and by the
+// counts one by one, since a struct of more than eight octets would be handed on in memory.
+fn walk(
+    whole: &&[u8],
+    at: usize,
+    regions: u8,
+    parameters: u8,
+    items: u8,
+    tolerances: u8,
+    releases: u8,
+    memory: u32,
+) -> u64
+    requires { ⌜ (at ≤ length (now (now whole))) × Standing (now (now whole)) (drop at (now (now whole))) (counts regions parameters items tolerances releases memory) ⌝ }
+    ensures { λ r. ⌜ ((f : ℕ) → length (now (now (whole .entry))) - at < f → tells (now (now (whole .entry))) r ≡ walkOf f (now (now (whole .entry))) (drop at (now (now (whole .entry)))) (counts regions parameters items tolerances releases memory)) ⌝ }
 {
     let sheet = *whole;
     let rest = &sheet[at..];
+    let so = Counts {
+        regions,
+        parameters,
+        items,
+        tolerances,
+        releases,
+        memory,
+    };
     let read = crate::reading::read_record(sheet, rest, so);
     let Reading::Record(size, next) = read else {
         return fault_at(read, at);
@@ -136,7 +178,16 @@ fn walk(whole: &&[u8], at: usize, so: Counts) -> u64
     if octets::octet(rest, 0) == 0 {
         return ended(sheet, at, so);
     }
-    walk(whole, at + size as usize, next)
+    walk(
+        whole,
+        at + size as usize,
+        next.regions,
+        next.parameters,
+        next.items,
+        next.tolerances,
+        next.releases,
+        next.memory,
+    )
 }
 
 // The fault of a paper's number; a number that is none counts as the last.
@@ -166,7 +217,8 @@ fn told(sheet: &[u8], walked: u64) -> Verdict
                 regions: (walked % 256) as u8,
                 parameters: (walked / 256 % 256) as u8,
                 items: (walked / 65536 % 256) as u8,
-                tolerances: (walked / 16777216 % 256) as u8,
+                tolerances: (walked / 16777216 % 16) as u8,
+                releases: (walked / 268435456 % 16) as u8,
                 memory: (walked / 4294967296 % 16777216) as u32,
             },
         ));
@@ -181,12 +233,5 @@ pub fn check(sheet: &[u8]) -> Verdict
     if 2048 < sheet.len() {
         return Verdict::Faulty(Fault::Ended, 0);
     }
-    let none = Counts {
-        regions: 0,
-        parameters: 0,
-        items: 0,
-        tolerances: 0,
-        memory: 0,
-    };
-    told(sheet, walk(&sheet, 0, none))
+    told(sheet, walk(&sheet, 0, 0, 0, 0, 0, 0, 0))
 }

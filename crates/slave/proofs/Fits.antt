@@ -13,7 +13,7 @@ use Rattle.frame.specs.Places.{bodyEnd, dataFrom, Sized}
 use Rattle.frame.proofs.Rooms.{sized, parameter-room, memory-room, quiet-fits, reads-fit, writes-fit, identifies-fit, alarms-fit, connects-fit}
 use Rattle.link.specs.declared.state.LinkState.{LinkState}
 use Rattle.machine.specs.Connecting.{connectOf}
-use Rattle.machine.specs.Judging.{parameterData, parameterOf, itemData, itemOf, alarmsOf, clearOf, elementOf, memoryOf, dataOf, judgeOf}
+use Rattle.machine.specs.Judging.{parameterData, parameterOf, itemData, itemOf, alarmsOf, clearOf, elementOf, memoryOf, dataOf, strayed, judgeOf}
 use Rattle.machine.specs.Outcomes.{finished, outcomeOf}
 use Rattle.machine.specs.Spans.{rightOf, moved, grantedOf, spanOf}
 use Rattle.machine.specs.declared.words.Carrier.{Carrier}
@@ -51,7 +51,7 @@ moved-fits form false by place n l m s d p = reads-fit form l m s by place n d p
 pub valid-sized : (s : List ℕ) (lay : Layout) → ValidSheet s lay → Sized (lay .form) (lay .l)
 valid-sized s lay ok = sized (lay .form) (lay .l) (length-least s lay ok) (length-short s lay ok)
 
-module _ (s : List ℕ) (lay : Layout) (ok : ValidSheet s lay) (st : LinkState) (c : Command) where
+module _ (s : List ℕ) (lay : Layout) (ok : ValidSheet s lay) (st : LinkState) (c : Command) (stray : ℕ) where
   quiet : Fitting (lay .form) Quiet (lay .l) (lay .memory) (length s)
   quiet = quiet-fits (lay .form) (lay .l) (lay .memory) (length s)
 
@@ -149,12 +149,18 @@ module _ (s : List ℕ) (lay : Layout) (ok : ValidSheet s lay) (st : LinkState) 
       let P : Judgement → Type 0 = λ j. Fit (lay .form) j (lay .l) (lay .memory) (length s) in
       pick-both P _ tt (pick-both P _ tt (pick-both P _ tt (pick-both P _ tt (connects-fit (lay .form) (lay .l) (lay .memory) (length s) (valid-sized s lay ok)))))
 
-  judge-fits : Fit (lay .form) (judgeOf s lay st c) (lay .l) (lay .memory) (length s)
+  strayed-fits : (j : Judgement) → Fit (lay .form) j (lay .l) (lay .memory) (length s) → Fit (lay .form) (strayed stray j) (lay .l) (lay .memory) (length s)
+  unfolding strayed
+  strayed-fits (Refused alarm field) f = pick-both (λ (j : Judgement). Fit (lay .form) j (lay .l) (lay .memory) (length s)) _ tt tt
+  strayed-fits (Accepted effect next) f = pick-both (λ (j : Judgement). Fit (lay .form) j (lay .l) (lay .memory) (length s)) _ f tt
+
+  judge-fits : Fit (lay .form) (judgeOf s lay st c stray) (lay .l) (lay .memory) (length s)
   unfolding judgeOf dataOf parameterOf itemOf
   judge-fits =
       let P : Judgement → Type 0 = λ j. Fit (lay .form) j (lay .l) (lay .memory) (length s) in
       pick-both P _ tt
       (pick-both P _ tt
+      (strayed-fits _
       (pick-both P _ quiet
       (pick-both P _ (parameter-found false _ refl)
       (pick-both P _ (parameter-found true _ refl)
@@ -164,28 +170,28 @@ module _ (s : List ℕ) (lay : Layout) (ok : ValidSheet s lay) (st : LinkState) 
       (pick-both P _ quiet
       (pick-both P _ connect-fits
       (pick-both P _ quiet
-      (pick-both P _ (memory-fits false) (memory-fits true))))))))))))
+      (pick-both P _ (memory-fits false) (memory-fits true)))))))))))))
 
   finished-fits : (j : Judgement) → Fit (lay .form) j (lay .l) (lay .memory) (length s) → Fitting (lay .form) (finished st c j .effect) (lay .l) (lay .memory) (length s)
   unfolding finished
   finished-fits (Refused alarm field) f = quiet
   finished-fits (Accepted effect next) f = f
 
-  pub outcome-fits : Fitting (lay .form) (outcomeOf s lay st c .effect) (lay .l) (lay .memory) (length s)
+  pub outcome-fits : Fitting (lay .form) (outcomeOf s lay st c stray .effect) (lay .l) (lay .memory) (length s)
   unfolding outcomeOf
   outcome-fits =
-      pick-both (λ (o : Outcome). Fitting (lay .form) (o .effect) (lay .l) (lay .memory) (length s)) _ quiet (finished-fits (judgeOf s lay st c) judge-fits)
+      pick-both (λ (o : Outcome). Fitting (lay .form) (o .effect) (lay .l) (lay .memory) (length s)) _ quiet (finished-fits (judgeOf s lay st c stray) judge-fits)
 
 -- on lent lists of the right lengths the effect fits
 pub lent-fits : (sheet memory command reply : List ℕ) (lay : Layout) (st : LinkState) → Lent sheet memory command reply lay
-    → (c : Command) (o : Outcome) (begun : List ℕ) → o ≡ outcomeOf sheet lay st c → length begun ≡ length reply
+    → (c : Command) (stray : ℕ) (o : Outcome) (begun : List ℕ) → o ≡ outcomeOf sheet lay st c stray → length begun ≡ length reply
     → (length command ≡ length begun) × Fitting (lay .form) (o .effect) (length begun) (length memory) (length sheet)
-lent-fits sheet memory command reply lay st p c o begun e l =
+lent-fits sheet memory command reply lay st p c stray o begun e l =
     let ok = valid-sheet sheet lay (p .valid) in
     let same : length begun ≡ lay .l = l ∙ p .lent in (
       p .asked ∙ sym same,
       subst₂ (λ (x y : ℕ). Fitting (lay .form) (o .effect) x y (length sheet)) (sym same) (sym (p .whole))
-          (subst (λ (x : Outcome). Fitting (lay .form) (x .effect) (lay .l) (lay .memory) (length sheet)) (sym e) (outcome-fits sheet lay ok st c)),
+          (subst (λ (x : Outcome). Fitting (lay .form) (x .effect) (lay .l) (lay .memory) (length sheet)) (sym e) (outcome-fits sheet lay ok st c stray)),
     )
 
 -- where nothing refuses, the lists are of the right lengths

@@ -9,6 +9,7 @@ use Rattle.octets.specs.Pick.{pick}
 use Rattle.frame.specs.Body.{replyOf, memoryAfter}
 use Rattle.frame.specs.Fields.{commandOf}
 use Rattle.frame.specs.Places.{placeOf}
+use Rattle.frame.specs.Unnamed.{strayOf}
 use Rattle.link.specs.Stored.{octetsOf, stateOf}
 use Rattle.link.specs.declared.state.LinkState.{LinkState}
 use Rattle.link.specs.declared.stored.Stored.the-variants.{State}
@@ -40,6 +41,10 @@ refusalOf lay st memory command reply =
     (pick (eqb (st .link) 0) 5
     0)))
 
+-- what a command comes to, by its octets
+abbrev pub outcomeFor : List ℕ → Layout → LinkState → List ℕ → Outcome
+outcomeFor sheet lay st command = outcomeOf sheet lay st (commandOf (lay .form) command) (strayOf (lay .form) (lay .release) command)
+
 -- what is left of an outcome: the place of what was wrong, the next state's record, the memory and the whole reply
 abbrev pub leftOf : Form → List ℕ → List ℕ → List ℕ → Outcome → Left
 leftOf form sheet memory command o =
@@ -47,7 +52,7 @@ leftOf form sheet memory command o =
 
 -- an exchange that nothing refuses
 unfoldable pub exchanged : List ℕ → Layout → LinkState → List ℕ → List ℕ → Left
-exchanged sheet lay st memory command = leftOf (lay .form) sheet memory command (outcomeOf sheet lay st (commandOf (lay .form) command))
+exchanged sheet lay st memory command = leftOf (lay .form) sheet memory command (outcomeFor sheet lay st command)
 
 unfoldable pub exchangeOf : List ℕ → List ℕ → List ℕ → List ℕ → List ℕ → Left
 exchangeOf sheet state memory command reply =

@@ -9,10 +9,8 @@ ghost use mathlib.Core.Path.{_≡_};
 ghost use Prim.Native.Nat.{_≤_, _/_, _%_};
 ghost use lib.ListN.{length};
 ghost use Rattle.frame.specs.Body.{replyOf};
-ghost use Rattle.frame.specs.Fields.{commandOf};
 ghost use Rattle.frame.specs.Places.{placeOf};
-ghost use Rattle.machine.specs.Outcomes.{outcomeOf};
-ghost use Rattle.slave.specs.Exchange.{left, refusalOf, exchanged, exchangeOf, Lent, Ready};
+ghost use Rattle.slave.specs.Exchange.{left, outcomeFor, refusalOf, exchanged, exchangeOf, Lent, Ready};
 ghost use Rattle.slave.specs.Wanted.{stepped, performed, came, cameOf};
 
 // The first refusal behind the sheet's and the state's, by lengths and link; 0 where there is none.
@@ -50,11 +48,12 @@ fn build(
     reply: &mut [u8],
 ) -> Built
     requires { ⌜ Lent (now sheet) (now memory) (now command) (now reply) layout ⌝ }
-    ensures { λ r. ⌜ (r .outcome ≡ outcomeOf (now (sheet .entry)) layout st (commandOf (layout .form) (now (command .entry)))) × (r .place ≡ placeOf (r .outcome .field)) × (now (reply .exit) ≡ replyOf (layout .form) (now (sheet .entry)) (now (memory .entry)) (now (command .entry)) (outcomeOf (now (sheet .entry)) layout st (commandOf (layout .form) (now (command .entry))))) ⌝ }
+    ensures { λ r. ⌜ (r .outcome ≡ outcomeFor (now (sheet .entry)) layout st (now (command .entry))) × (r .place ≡ placeOf (r .outcome .field)) × (now (reply .exit) ≡ replyOf (layout .form) (now (sheet .entry)) (now (memory .entry)) (now (command .entry)) (outcomeFor (now (sheet .entry)) layout st (now (command .entry)))) ⌝ }
 {
     let form = layout.form;
     let c = frame::fields::command_of(form, command);
-    let outcome = machine::outcome::outcome(sheet, layout, st, c);
+    let stray = frame::unnamed::stray(form, layout.release, command);
+    let outcome = machine::outcome::outcome(sheet, layout, st, c, stray);
     let field = outcome.field;
     let place = frame::places::place_of(field);
     let effect = outcome.effect;

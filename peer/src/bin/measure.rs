@@ -61,7 +61,7 @@ fn print_replays(batches: usize) -> bool {
             );
             return false;
         }
-        print_row(replaying.name, replaying.measure(&ENGINES, batches));
+        print_row(&replaying.name, replaying.measure(&ENGINES, batches));
     }
     true
 }

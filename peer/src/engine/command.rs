@@ -4,6 +4,7 @@ use super::code::Code;
 use super::memory_mode;
 use super::octets::{number_16, number_32};
 use super::region::{before_lacking, find_span, mapped_place, READ, WRITE_ASYNC, WRITE_SYNC};
+use super::reserved::first_reserved;
 use super::sheet::Sheet;
 use super::state::{Link, State};
 use std::ops::Range;
@@ -34,6 +35,11 @@ const NO_ROOM: u32 = 0;
 
 /// Octets before the data of a memory command.
 const MEMORY_HEAD: usize = 12;
+
+/// The fields of the codes that have them at one place wherever they are; some codes have none.
+const NO_FIELDS: Range<usize> = 4..4;
+const PARAMETER_FIELDS: Range<usize> = 4..7;
+const MEMORY_FIELDS: Range<usize> = 5..12;
 
 /// Octets that go from memory to reply, or from command to memory and reply.
 #[derive(Clone, Debug, PartialEq, Eq)]
@@ -88,16 +94,16 @@ pub fn judge<'a>(sheet: &Sheet<'a>, state: &State, command: &[u8]) -> Result<Act
         return Err(refused(ALARM_LINK));
     }
     match code {
-        Code::Nop => Ok(Act::Nothing),
+        Code::Nop => zeros(sheet, command, NO_FIELDS).map(|()| Act::Nothing),
         Code::PrmRd => parameter(sheet, command, READ).map(Act::Read),
         Code::PrmWr => parameter(sheet, command, write_right(state.link)).map(Act::Write),
         Code::IdRd => identity(sheet, command).map(Act::Identify),
         Code::AlmRd if command.len() < 16 => Err(wrong(NO_ROOM)),
         Code::AlmRd => current_alarm_mode(sheet, command).map(|()| Act::ShowLatches),
         Code::AlmClr => current_alarm_mode(sheet, command).map(|()| Act::ClearLatches),
-        Code::SyncSet => Ok(Act::Synchronize),
+        Code::SyncSet => zeros(sheet, command, NO_FIELDS).map(|()| Act::Synchronize),
         Code::Connect => connection(sheet, command).map(|()| Act::Connect),
-        Code::Disconnect => Ok(Act::Disconnect),
+        Code::Disconnect => zeros(sheet, command, NO_FIELDS).map(|()| Act::Disconnect),
         Code::MemRd => memory(sheet, command, READ).map(Act::Read),
         Code::MemWr => memory(sheet, command, write_right(state.link)).map(Act::Write),
     }
@@ -120,6 +126,37 @@ fn require(good: bool, place: u32) -> Result<(), Refused> {
     }
 }
 
+/// "Alarm 9 at the first such octet, after a command's other data checks and before rights" (request 13).
+fn zeros_beside(
+    sheet: &Sheet,
+    command: &[u8],
+    fields: Range<usize>,
+    data: Range<usize>,
+) -> Result<(), Refused> {
+    if !sheet.asks_zeros() {
+        return Ok(());
+    }
+    match first_reserved(sheet.frame(), command, fields, data) {
+        Some(at) => Err(wrong(at as u32)),
+        None => Ok(()),
+    }
+}
+
+/// The same for a command that writes no data.
+fn zeros(sheet: &Sheet, command: &[u8], fields: Range<usize>) -> Result<(), Refused> {
+    let behind = fields.end;
+    zeros_beside(sheet, command, fields, behind..behind)
+}
+
+/// The command's data of this length from `start` on, which a read does not name.
+fn written(start: usize, length: usize, right: u8) -> Range<usize> {
+    if right == READ {
+        start..start
+    } else {
+        start..start + length
+    }
+}
+
 /// "For alarm 10 it is how many octets of the span come before the first that lacks the right."
 fn permitted(sheet: &Sheet, address: u32, length: usize, right: u8) -> Result<(), Refused> {
     match before_lacking(sheet.regions(), address, length, right) {
@@ -138,12 +175,15 @@ fn parameter(sheet: &Sheet, command: &[u8], right: u8) -> Result<Transfer, Refus
     let length = usize::from(parameter.size);
     require(command[6] == parameter.size, SIZE_AT)?;
     require(length <= sheet.frame().room(command.len()), SIZE_AT)?;
+    let data = sheet.frame().data;
+    let named = written(data, length, right);
+    zeros_beside(sheet, command, PARAMETER_FIELDS, named)?;
     permitted(sheet, parameter.address, length, right)?;
     Ok(Transfer {
         place: mapped_place(sheet.regions(), parameter.address),
         length,
-        data: sheet.frame().data,
-        echo: 4..7,
+        data,
+        echo: PARAMETER_FIELDS,
     })
 }
 
@@ -155,13 +195,15 @@ fn identity<'a>(sheet: &Sheet<'a>, command: &[u8]) -> Result<&'a [u8], Refused> 
     require(size >= 1, SIZE_AT)?;
     require(offset + size <= item.len(), SIZE_AT)?;
     require(size <= sheet.frame().room(command.len()), SIZE_AT)?;
+    zeros(sheet, command, sheet.frame().echo.clone())?;
     Ok(&item[offset..offset + size])
 }
 
 /// A field of two octets has its first as place where the second alone is not zero too.
 fn current_alarm_mode(sheet: &Sheet, command: &[u8]) -> Result<(), Refused> {
     let mode = sheet.frame().alarm_mode;
-    require(mode.of(command) == 0, mode.place())
+    require(mode.of(command) == 0, mode.place())?;
+    zeros(sheet, command, mode.span())
 }
 
 fn connection(sheet: &Sheet, command: &[u8]) -> Result<(), Refused> {
@@ -169,14 +211,12 @@ fn connection(sheet: &Sheet, command: &[u8]) -> Result<(), Refused> {
     let mode = CommunicationMode::of(command[5]).ok_or(wrong(COM_MOD_AT))?;
     let least_com_time = if mode.dual { 2 } else { 1 };
     require(command[6] >= least_com_time, COM_TIME_AT)?;
-    match sheet.frame().profile {
-        Some(profile) => require(
-            profile.of(command) == usize::from(sheet.profile()),
-            profile.place(),
-        ),
-        // "One not there isn't checked" (request 7).
-        None => Ok(()),
+    // "One not there isn't checked" (request 7).
+    if let Some(profile) = sheet.frame().profile {
+        let good = profile.of(command) == usize::from(sheet.profile());
+        require(good, profile.place())?;
     }
+    zeros(sheet, command, sheet.frame().echo.clone())
 }
 
 fn memory(sheet: &Sheet, command: &[u8], right: u8) -> Result<Transfer, Refused> {
@@ -187,12 +227,14 @@ fn memory(sheet: &Sheet, command: &[u8], right: u8) -> Result<Transfer, Refused>
     require(length <= command.len().saturating_sub(MEMORY_HEAD), SIZE_AT)?;
     let address = number_32(command, 8);
     let place = find_span(sheet.regions(), address, length).ok_or(wrong(ADDRESS_AT))?;
+    let data = written(MEMORY_HEAD, length, right);
+    zeros_beside(sheet, command, MEMORY_FIELDS, data)?;
     permitted(sheet, address, length, right)?;
     Ok(Transfer {
         place,
         length,
         data: MEMORY_HEAD,
-        echo: 5..12,
+        echo: MEMORY_FIELDS,
     })
 }
 

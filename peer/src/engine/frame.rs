@@ -22,7 +22,7 @@ pub struct Field {
 impl Field {
     /// The number, which is sent low octet first.
     pub fn of(self, command: &[u8]) -> usize {
-        let octets = &command[self.at..self.at + self.octets];
+        let octets = &command[self.span()];
         let step = |number: usize, &octet: &u8| number << 8 | usize::from(octet);
         octets.iter().rev().fold(0, step)
     }
@@ -30,6 +30,11 @@ impl Field {
     /// The place that is told of it (request 3).
     pub fn place(self) -> u32 {
         self.at as u32
+    }
+
+    /// Its octets in the command.
+    pub fn span(self) -> Range<usize> {
+        self.at..self.at + self.octets
     }
 }
 
@@ -44,6 +49,8 @@ pub struct Frame {
     pub wdt: usize,
     /// The octet of the reply whose low half is the command's alarm.
     pub alarm: usize,
+    /// Octets of the command before its fields that are neither code nor WDT.
+    pub head: Range<usize>,
     /// Bits of command octet 2 that come back in reply octet 2 (request 1).
     pub identity: u8,
     /// The first octet of a parameter's or an ID item's data.
@@ -58,7 +65,7 @@ pub struct Frame {
     pub latches: usize,
     /// The profile of CONNECT, if it names one.
     pub profile: Option<Field>,
-    /// Octets of ID_RD and of CONNECT that come again.
+    /// Octets of ID_RD and of CONNECT that come again, which are their fields.
     pub echo: Range<usize>,
 }
 
@@ -68,6 +75,7 @@ pub static ENHANCED: Frame = Frame {
     without: &[],
     wdt: 1,
     alarm: 3,
+    head: 2..4,
     identity: 0xC0,
     data: 8,
     behind_data: 0,
@@ -84,6 +92,7 @@ pub static SHORT: Frame = Frame {
     without: &[Code::MemRd, Code::MemWr],
     wdt: 15,
     alarm: 1,
+    head: 1..4,
     identity: 0,
     data: 7,
     behind_data: 1,

@@ -7,6 +7,7 @@ pub const REGION_RECORD: usize = 10;
 pub const PARAMETER_RECORD: usize = 8;
 pub const ITEM_RECORD: usize = 35;
 const TOLERANCE_RECORD: usize = 2;
+const RELEASE_RECORD: usize = 2;
 
 /// The kinds in the order in which a sheet has them, the end apart.
 #[derive(Clone, Copy, PartialEq, Eq, PartialOrd, Ord)]
@@ -18,6 +19,8 @@ pub enum Kind {
     Item,
     /// How many failures in a row are allowed (request 9).
     Tolerance,
+    /// Which release of the drive rules holds (request 13).
+    Release,
     End,
 }
 
@@ -31,6 +34,7 @@ impl Kind {
             3 => Some(Kind::Parameter),
             4 => Some(Kind::Item),
             6 => Some(Kind::Tolerance),
+            7 => Some(Kind::Release),
             _ => None,
         }
     }
@@ -43,15 +47,17 @@ impl Kind {
             Kind::Parameter => PARAMETER_RECORD,
             Kind::Item => ITEM_RECORD,
             Kind::Tolerance => TOLERANCE_RECORD,
+            Kind::Release => RELEASE_RECORD,
             Kind::End => 1,
         }
     }
 
-    /// A link record of either type comes first and once, a tolerance once; the others never step back.
+    /// A link record of either type comes first and once, a tolerance and a release once; the others never step back.
     pub fn in_place(self, last: Option<Kind>) -> bool {
         match last {
             None => self == Kind::Link,
             Some(Kind::Tolerance) => self > Kind::Tolerance,
+            Some(Kind::Release) => self > Kind::Release,
             Some(last) => self != Kind::Link && self >= last,
         }
     }

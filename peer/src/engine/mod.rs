@@ -1,5 +1,5 @@
 //! The slave on byte slices, as document 01 ("What we are to build") rules,
-//! with requests 1, 3 and 5 to 9 of document 02.
+//! with requests 1, 3, 5 to 9 and 13 of document 02.
 //!
 //! Each call answers number + 2^32 × place. A call with a number other than 0
 //! has written nothing, except a replay's difference (34), which has replayed
@@ -15,6 +15,7 @@ pub mod memory_mode;
 pub mod octets;
 pub mod region;
 pub mod replay;
+pub mod reserved;
 pub mod sheet;
 pub mod state;
 
@@ -27,7 +28,13 @@ mod parameter_tests;
 #[cfg(test)]
 mod place_tests;
 #[cfg(test)]
+mod release_tests;
+#[cfg(test)]
 mod replay_tests;
+#[cfg(test)]
+mod reserved_order_tests;
+#[cfg(test)]
+mod reserved_tests;
 #[cfg(test)]
 mod rule_tests;
 #[cfg(test)]
@@ -38,6 +45,8 @@ mod short_bench_tests;
 mod short_field_tests;
 #[cfg(test)]
 mod short_replay_tests;
+#[cfg(test)]
+mod short_reserved_tests;
 #[cfg(test)]
 mod short_sheet_tests;
 #[cfg(test)]

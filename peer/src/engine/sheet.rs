@@ -14,6 +14,9 @@ const ITEM_LIMIT: usize = 32;
 const PARAMETER_SIZE_LIMIT: u8 = 56;
 const ITEM_LENGTH_LIMIT: u8 = 32;
 const TOLERANCE_LIMIT: u8 = 3;
+/// The releases of the drive rules (request 13); the first one ignores what a command does not name.
+const FIRST_RELEASE: u8 = 1;
+const SECOND_RELEASE: u8 = 2;
 const ADDRESSES: u64 = 1 << 32;
 
 /// A parameter record.
@@ -34,6 +37,7 @@ pub struct Sheet<'a> {
     parameters: usize,
     items: usize,
     tolerance: Option<u8>,
+    release: Option<u8>,
     memory: u64,
 }
 
@@ -49,6 +53,7 @@ impl<'a> Sheet<'a> {
             parameters: 0,
             items: 0,
             tolerance: None,
+            release: None,
             memory: 0,
         };
         let mut place = 0;
@@ -82,6 +87,7 @@ impl<'a> Sheet<'a> {
             Kind::Parameter => self.take_parameter(parameter_of(record))?,
             Kind::Item => self.take_item(record)?,
             Kind::Tolerance => self.take_tolerance(record[1])?,
+            Kind::Release => self.take_release(record[1])?,
             Kind::End => (),
         }
         Ok(kind)
@@ -150,6 +156,14 @@ impl<'a> Sheet<'a> {
         Ok(())
     }
 
+    fn take_release(&mut self, release: u8) -> Result<(), u32> {
+        if !(FIRST_RELEASE..=SECOND_RELEASE).contains(&release) {
+            return Err(answer::RANGE);
+        }
+        self.release = Some(release);
+        Ok(())
+    }
+
     /// Where the octets of command and reply stand, by the link record's kind.
     pub fn frame(&self) -> &'static Frame {
         Frame::of_link(self.octets[0])
@@ -183,6 +197,16 @@ impl<'a> Sheet<'a> {
     /// What the tolerance record says, if the sheet has one.
     pub fn tolerance_record(&self) -> Option<u8> {
         self.tolerance
+    }
+
+    /// Whether what a command does not name has to be zero: "without it release 1 holds".
+    pub fn asks_zeros(&self) -> bool {
+        self.release == Some(SECOND_RELEASE)
+    }
+
+    /// What the release record says, if the sheet has one.
+    pub fn release_record(&self) -> Option<u8> {
+        self.release
     }
 
     /// The regions in sheet order.

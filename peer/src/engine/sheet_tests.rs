@@ -64,8 +64,8 @@ fn length_of_the_sheet() {
 
 #[test]
 fn kinds_and_their_places() {
-    assert_eq!(sheet(&[7]), 12);
     assert_eq!(sheet(&[8]), 12);
+    assert_eq!(sheet(&[7]), 13);
     assert_eq!(sheet(&[0]), 13);
     assert_eq!(sheet(&[2]), 13);
     assert_eq!(sheet(&[1]), 11);
@@ -196,7 +196,7 @@ fn a_tolerance_stands_behind_the_items_and_once() {
     assert_eq!(sheet(&[1, 16, 0x30, 0, 0, 6, 1]), 13 | 5 << 32);
 }
 
-/// Place, cut and range in this order; kinds 5 and 7 stay unknown.
+/// Place, cut and range in this order; kinds from 8 on stay unknown.
 #[test]
 fn which_fault_of_a_tolerance_is_told() {
     assert_eq!(sheet(&[1, 16, 0x30, 0, 6]), 11 | 4 << 32);
@@ -206,7 +206,7 @@ fn which_fault_of_a_tolerance_is_told() {
     assert_eq!(sheet(&[1, 16, 0x30, 0, 6, 1, 6, 4]), 13 | 6 << 32);
     assert_eq!(sheet(&[1, 16, 0x30, 0, 6, 4, 6]), 14 | 4 << 32);
     assert_eq!(sheet(&[1, 16, 0x30, 0, 6, 1, 2]), 13 | 6 << 32);
-    for kind in 7..=255 {
+    for kind in 8..=255 {
         assert_eq!(sheet(&[1, 16, 0x30, 0, kind, 1, 0]), 12 | 4 << 32);
         assert_eq!(sheet(&[1, 16, 0x30, 0, 6, 1, kind, 1]), 12 | 6 << 32);
     }

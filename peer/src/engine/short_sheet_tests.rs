@@ -97,11 +97,11 @@ fn behind_other_records_it_is_out_of_place() {
     }
 }
 
-/// Kind 05 is known now, and of those beside it 07 is not.
+/// Kind 05 is known now, and those from 08 on are not.
 #[test]
 fn the_other_kinds_stay_as_they_were() {
     for link in [1, 5] {
-        for kind in 7..=255 {
+        for kind in 8..=255 {
             assert_eq!(sheet(&[link, 16, 3, 4, kind, 16, 3, 4, 0]), at(12, 4));
             assert_eq!(sheet(&[kind, 16, 3, 4, 0]), 12);
         }

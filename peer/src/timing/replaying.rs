@@ -16,7 +16,7 @@ const SYNC_SET: u8 = 0x0D;
 
 /// A trace with what it starts from.
 pub struct Replaying {
-    pub name: &'static str,
+    pub name: String,
     sheet: Vec<u8>,
     recorded: Recorder,
 }
@@ -24,10 +24,11 @@ pub struct Replaying {
 /// What a replay answers and leaves behind.
 type Left = (u64, Vec<u8>, Vec<u8>);
 
-/// Traces on the typical and the largest sheet, and at L 16 on the typical one of both types.
+/// Traces on the typical and the largest sheet, on the typical one under release 2, and at L 16 on the typical one of both types.
 pub fn replayings() -> Vec<Replaying> {
     let (plans, both) = (plans(), plans_of_both_types());
-    let usual = [&plans[1], &plans[3]].map(|named| replaying(named, usual_exchanges));
+    let released = plans[1].in_release_2();
+    let usual = [&plans[1], &plans[3], &released].map(|named| replaying(named, usual_exchanges));
     let shared = both[0]
         .iter()
         .map(|named| replaying(named, shared_exchanges));
@@ -54,7 +55,7 @@ fn replaying(named: &NamedPlan, exchanges: fn(&NamedPlan, u8) -> Vec<Scene>) -> 
         recorded.record(&sheet, &command);
     }
     Replaying {
-        name: named.name,
+        name: named.name.clone(),
         sheet,
         recorded,
     }

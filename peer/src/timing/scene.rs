@@ -5,7 +5,7 @@ use crate::engine::sheet::Parameter;
 use crate::trial::build;
 use crate::trial::plan::Plan;
 use crate::trial::samples::{largest, typical, Spans};
-use crate::trial::states::{counting_state, plain_state, SYNC};
+use crate::trial::states::{counting_state, plain_state, ASYNC, SYNC};
 
 /// The L of the timed exchanges, those that are made in both types apart.
 pub const PDU_LENGTH: u8 = 64;
@@ -32,13 +32,27 @@ impl Scene {
 
 /// A sheet with its name.
 pub struct NamedPlan {
-    pub name: &'static str,
+    pub name: String,
     pub plan: Plan,
+}
+
+fn named(name: &str, plan: Plan) -> NamedPlan {
+    NamedPlan {
+        name: name.to_string(),
+        plan,
+    }
+}
+
+impl NamedPlan {
+    /// The same sheet with a record of release 2, which is all that differs.
+    pub fn in_release_2(&self) -> NamedPlan {
+        let name = format!("{}, release 2", self.name);
+        named(&name, self.plan.clone().in_release_2())
+    }
 }
 
 /// The sheets that are timed, from the smallest to the largest.
 pub fn plans() -> Vec<NamedPlan> {
-    let named = |name, plan| NamedPlan { name, plan };
     vec![
         named("smallest sheet", Plan::bare(PDU_LENGTH)),
         named("typical sheet", typical(PDU_LENGTH)),
@@ -59,7 +73,6 @@ pub fn plans() -> Vec<NamedPlan> {
 
 /// Sheets of the enhanced type at the short type's L, each with the same one of the short type.
 pub fn plans_of_both_types() -> [[NamedPlan; 2]; 2] {
-    let named = |name, plan| NamedPlan { name, plan };
     let usual = typical(SHORT_LENGTH);
     let full = largest(SHORT_LENGTH, Spans::Last);
     [
@@ -139,7 +152,7 @@ fn refused_exchanges(named: &NamedPlan, link: u8) -> Vec<Scene> {
         region.rights = 0;
     }
     let shut = NamedPlan {
-        name: named.name,
+        name: named.name.clone(),
         plan,
     };
     let mut scenes = Vec::new();
@@ -173,8 +186,16 @@ pub fn shared_exchanges(named: &NamedPlan, link: u8) -> Vec<Scene> {
     scenes
 }
 
+/// Exchanges of the typical sheet under release 2, each of which has one under release 1 in the table.
+pub fn release_2_exchanges() -> Vec<Scene> {
+    let [_, short] = &plans_of_both_types()[0];
+    let mut scenes = usual_exchanges(&plans()[1].in_release_2(), ASYNC);
+    scenes.extend(shared_exchanges(&short.in_release_2(), ASYNC));
+    scenes
+}
+
 /// The rows of the table: reading each sheet, exchanges on the typical and the
-/// largest in both links, and exchanges of both types at one L.
+/// largest in both links, exchanges of both types at one L, and those of release 2.
 pub fn table_scenes() -> Vec<Scene> {
     let plans = plans();
     let mut scenes: Vec<Scene> = plans.iter().map(reading).collect();
@@ -191,5 +212,6 @@ pub fn table_scenes() -> Vec<Scene> {
             scenes.extend(pairs.flat_map(|(one, other)| [one, other]));
         }
     }
+    scenes.extend(release_2_exchanges());
     scenes
 }

@@ -39,13 +39,22 @@ pub fn worst(engines: &[Engine; 2], side: usize, batches: usize) -> Option<Worst
 
 fn candidates() -> Vec<Scene> {
     let mut scenes = Vec::new();
-    for named in plans() {
+    for named in plans().iter().flat_map(of_both_releases) {
         for link in [ASYNC, SYNC] {
             scenes.extend(memory_candidates(&named, link));
             scenes.extend(other_candidates(&named, link));
         }
     }
     scenes
+}
+
+/// Under release 2 the whole command is looked at.
+fn of_both_releases(named: &NamedPlan) -> [NamedPlan; 2] {
+    let same = NamedPlan {
+        name: named.name.clone(),
+        plan: named.plan.clone(),
+    };
+    [same, named.in_release_2()]
 }
 
 /// Spans at the start and end of regions, and one that is not mapped.

@@ -114,8 +114,8 @@ pub fn median(mut times: Vec<f64>) -> f64 {
 #[cfg(test)]
 mod tests {
     use super::*;
-    use crate::timing::scene::{plans, plans_of_both_types, reading};
-    use crate::timing::scene::{shared_exchanges, usual_exchanges};
+    use crate::timing::scene::{plans, plans_of_both_types, reading, release_2_exchanges};
+    use crate::timing::scene::{shared_exchanges, table_scenes, usual_exchanges};
     use crate::trial::engines::PEER;
     use crate::trial::wire::Wire;
 
@@ -145,6 +145,21 @@ mod tests {
                 let scenes = shared_exchanges(named, link);
                 scenes.iter().for_each(is_accepted_and_can_be_timed);
             }
+        }
+    }
+
+    /// The record of release 2 is all that differs in the sheet, and zeros in the command.
+    #[test]
+    fn exchanges_of_release_2_have_their_like_of_release_1() {
+        let table = table_scenes();
+        for scene in release_2_exchanges() {
+            is_accepted_and_can_be_timed(&scene);
+            let name = scene.name.replace(", release 2", "");
+            let like = table.iter().find(|other| other.name == name);
+            let mut sheet = like.map_or(Vec::new(), |like| like.sheet.clone());
+            sheet.pop();
+            sheet.extend([7, 2, 0]);
+            assert_eq!(sheet, scene.sheet, "{name}");
         }
     }
 

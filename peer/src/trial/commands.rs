@@ -1,5 +1,6 @@
 //! Random commands that are accepted often and fail just beside the rules.
 
+use super::named::{hush, reserved};
 use super::plan::Plan;
 use super::random::Random;
 use super::states::{asks_wdt, ASYNC, DISCONNECTED, SYNC};
@@ -16,7 +17,7 @@ const USUAL: [u8; 13] = [
     0x00, 0x01, 0x01, 0x02, 0x02, 0x03, 0x03, 0x05, 0x06, 0x1D, 0x1D, 0x1E, 0x1E,
 ];
 
-/// A command for this sheet in this state; unnamed octets hold anything.
+/// A command for this sheet in this state; reserved octets hold anything, but mostly zero under release 2.
 pub fn random_command(random: &mut Random, plan: &Plan, state: &[u8]) -> Vec<u8> {
     let length = usize::from(plan.pdu_length);
     let mut command = vec![0; length];
@@ -27,8 +28,28 @@ pub fn random_command(random: &mut Random, plan: &Plan, state: &[u8]) -> Vec<u8>
     if !random.chance(3) {
         fill_body(random, plan, &mut command);
     }
+    if plan.asks_zeros() {
+        quieten(random, plan, &mut command);
+    }
     command[plan.wire.wdt] = watchdog(random, state);
     command
+}
+
+/// Makes reserved octets zero in most commands, and in some then sets one of them again.
+fn quieten(random: &mut Random, plan: &Plan, command: &mut [u8]) {
+    if random.chance(5) {
+        return;
+    }
+    hush(plan.wire, command);
+    if random.chance(30) {
+        let octets = reserved(plan.wire, command);
+        // The first and the last are asked for more often than those between.
+        let first = random.index(octets.len().min(4));
+        let other = random.index(octets.len());
+        let at = random.pick(&[first, first, other, octets.len() - 1]);
+        let any = random.octet();
+        command[octets[at]] = random.pick(&[1, 0x20, 0xFF, any]);
+    }
 }
 
 fn code(random: &mut Random, plan: &Plan, link: u8) -> u8 {
@@ -209,6 +230,7 @@ fn address(random: &mut Random, plan: &Plan, length: u64) -> u64 {
 #[cfg(test)]
 mod tests {
     use super::*;
+    use crate::trial::named::first_set;
     use crate::trial::samples::sheet_p;
     use crate::trial::states::{counting_state, failing_state, plain_state};
 
@@ -233,6 +255,22 @@ mod tests {
             .filter(|_| random_command(&mut random, &plan, &state)[1] != 0x60)
             .count();
         assert!((4000..6000).contains(&failing));
+    }
+
+    #[test]
+    fn under_release_2_most_commands_have_no_reserved_octet_set_and_some_have_one() {
+        for plan in [sheet_p(), sheet_p().in_short()] {
+            let (mut random, plan) = (Random::new(1), plan.in_release_2());
+            let state = plain_state(16, ASYNC);
+            let mut counts = [0; 17];
+            for _ in 0..10_000 {
+                let command = random_command(&mut random, &plan, &state);
+                counts[first_set(plan.wire, &command).unwrap_or(16)] += 1;
+            }
+            assert!((6500..8000).contains(&counts[16]));
+            let octets = 2..if plan.wire.has_memory { 16 } else { 15 };
+            assert!(counts[octets].iter().all(|&refused| refused > 20));
+        }
     }
 
     #[test]

@@ -1,6 +1,6 @@
 //! Damage to good sheets: octets, records and lengths.
 
-use super::plan::{item, parameter, region, tolerance_record, Plan};
+use super::plan::{item, parameter, region, release_record, tolerance_record, Plan};
 use super::random::Random;
 use crate::engine::region::Region;
 
@@ -65,7 +65,7 @@ fn damage_records(random: &mut Random, records: &mut Vec<Vec<u8>>) {
     }
     let at = random.index(records.len());
     let other = random.index(records.len());
-    match random.below(9) {
+    match random.below(10) {
         0 => records.swap(at, other),
         1 => {
             let copy = records[at].clone();
@@ -76,7 +76,7 @@ fn damage_records(random: &mut Random, records: &mut Vec<Vec<u8>>) {
             records[at].pop();
         }
         4 => {
-            let kind = random.pick(&[0, 1, 5, 6, 7, 0xFF]);
+            let kind = random.pick(&[0, 1, 5, 6, 7, 8, 0xFF]);
             records.insert(at, vec![kind]);
         }
         5 => link_record(random, records),
@@ -88,10 +88,28 @@ fn damage_records(random: &mut Random, records: &mut Vec<Vec<u8>>) {
             let failures = random.pick(&[0, 1, 2, 3, 3, 4, 0xFF]);
             records.insert(at, tolerance_record(failures));
         }
+        8 => release(random, records),
         _ => {
             let body = random.octets(9);
             records.insert(at, [vec![2], body].concat());
         }
+    }
+}
+
+/// A release record beside the sheet's own or in its stead, mostly at the end, at times the last octets of all.
+fn release(random: &mut Random, records: &mut Vec<Vec<u8>>) {
+    if random.chance(60) {
+        records.retain(|record| record.first() != Some(&7));
+    }
+    let last = records.len().max(1);
+    let anywhere = random.index(last);
+    let at = random.pick(&[0, last - 1, last - 1, last - 1, last, anywhere]);
+    let release = random.pick(&[0, 1, 1, 2, 2, 3, 0xFF]);
+    let at = at.min(records.len());
+    records.insert(at, release_record(release));
+    if random.chance(40) {
+        records.truncate(at + 1);
+        records[at].truncate(random.pick(&[1, 2]));
     }
 }
 

@@ -16,6 +16,7 @@ pub fn random_plan(random: &mut Random) -> Plan {
         regions: regions(random),
         items: items(random),
         tolerance: tolerance(random),
+        release: release(random),
         ..Plan::bare(random.pick(&LENGTHS))
     };
     if random.chance(30) {
@@ -28,6 +29,11 @@ pub fn random_plan(random: &mut Random) -> Plan {
 /// Half of the sheets allow a failure or more; the others have no record, or one of 0.
 fn tolerance(random: &mut Random) -> Option<u8> {
     random.pick(&[None, None, Some(0), Some(1), Some(2), Some(3)])
+}
+
+/// Half of the sheets are of release 2; the others have no record, or one of 1.
+fn release(random: &mut Random) -> Option<u8> {
+    random.pick(&[None, None, Some(1), Some(2), Some(2), Some(2)])
 }
 
 fn regions(random: &mut Random) -> Vec<Region> {
@@ -171,14 +177,19 @@ mod tests {
     }
 
     #[test]
-    fn random_plans_of_both_types_have_every_tolerance_and_none() {
+    fn random_plans_of_both_types_have_every_tolerance_and_release_and_none() {
         let mut seen = std::collections::BTreeSet::new();
-        for seed in 0..300 {
+        for seed in 0..600 {
             let plan = random_plan(&mut Random::new(seed));
-            seen.insert((plan.wire.link_kind, plan.tolerance));
+            seen.insert((plan.wire.link_kind, plan.tolerance, plan.release));
         }
         let all = [None, Some(0), Some(1), Some(2), Some(3)];
-        let both = [1, 5].map(|kind| all.map(|tolerance| (kind, tolerance)));
-        assert!(seen.into_iter().eq(both.concat()));
+        for kind in [1, 5] {
+            for tolerance in all {
+                for release in [None, Some(1), Some(2)] {
+                    assert!(seen.contains(&(kind, tolerance, release)));
+                }
+            }
+        }
     }
 }

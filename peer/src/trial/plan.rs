@@ -27,6 +27,8 @@ pub struct Plan {
     pub items: Vec<Item>,
     /// Nothing for a sheet without the record.
     pub tolerance: Option<u8>,
+    /// The same.
+    pub release: Option<u8>,
 }
 
 impl Plan {
@@ -41,6 +43,7 @@ impl Plan {
             parameters: Vec::new(),
             items: Vec::new(),
             tolerance: None,
+            release: None,
         }
     }
 
@@ -71,6 +74,7 @@ impl Plan {
                 })
                 .collect(),
             tolerance: sheet.tolerance_record(),
+            release: sheet.release_record(),
         })
     }
 
@@ -90,12 +94,26 @@ impl Plan {
         records.extend(self.parameters.iter().map(parameter_record));
         records.extend(self.items.iter().map(item_record));
         records.extend(self.tolerance.map(tolerance_record));
+        records.extend(self.release.map(release_record));
         records.push(vec![0]);
         records
     }
 
     pub fn octets(&self) -> Vec<u8> {
         self.records().concat()
+    }
+
+    /// The same records under release 2.
+    pub fn in_release_2(self) -> Plan {
+        Plan {
+            release: Some(2),
+            ..self
+        }
+    }
+
+    /// Whether reserved octets have to be zero.
+    pub fn asks_zeros(&self) -> bool {
+        self.release == Some(2)
     }
 
     /// How many failures in a row the sheet allows.
@@ -152,6 +170,10 @@ pub fn item_record(item: &Item) -> Vec<u8> {
 
 pub fn tolerance_record(failures: u8) -> Vec<u8> {
     vec![6, failures]
+}
+
+pub fn release_record(release: u8) -> Vec<u8> {
+    vec![7, release]
 }
 
 pub fn region(start: u64, length: u64, rights: u8) -> Region {

@@ -43,6 +43,14 @@ pub fn tolerant(pdu_length: u8, tolerance: Option<u8>) -> Plan {
     }
 }
 
+/// The same, and this release of the drive rules.
+pub fn released(pdu_length: u8, tolerance: Option<u8>, release: Option<u8>) -> Plan {
+    Plan {
+        release,
+        ..tolerant(pdu_length, tolerance)
+    }
+}
+
 /// A sheet as a drive would have it: 8 regions, 16 parameters, 4 ID items.
 pub fn typical(pdu_length: u8) -> Plan {
     let mut plan = Plan::bare(pdu_length);
@@ -107,6 +115,7 @@ mod tests {
         assert_eq!(sheet_p().octets().len(), 33);
         assert_eq!(engine::sheet(&both_ends(48).octets()), 0);
         assert_eq!(engine::sheet(&tolerant(8, Some(3)).octets()), 0);
+        assert_eq!(engine::sheet(&released(8, None, Some(2)).octets()), 0);
         assert_eq!(engine::sheet(&typical(64).octets()), 0);
         for spans in [Spans::First, Spans::Last, Spans::Crossing] {
             let octets = largest(64, spans).octets();

@@ -2,6 +2,7 @@
 
 use super::call::{Call, Inputs};
 use super::links::Links;
+use super::releases::Releases;
 use super::replies::{Cycle, Replies};
 use super::states::LINK_AT;
 use super::turned::Turned;
@@ -19,6 +20,7 @@ pub struct Tally {
     calls: BTreeMap<Call, u64>,
     numbers: BTreeMap<(Call, u32), u64>,
     links: Links,
+    releases: Releases,
     turned: Turned,
 }
 
@@ -31,6 +33,7 @@ impl Default for Tally {
             calls: BTreeMap::new(),
             numbers: BTreeMap::new(),
             links: Links::default(),
+            releases: Releases::default(),
             turned: Turned::default(),
         }
     }
@@ -48,7 +51,10 @@ impl Tally {
                 self.add_reply(answer >> 32, before, after, reply);
             }
             Call::Turn => self.turned.add(answer as u32, before, after),
-            Call::Sheet => self.links.add(&after.sheet, answer),
+            Call::Sheet => {
+                self.links.add(&after.sheet, answer);
+                self.releases.add(&after.sheet, answer);
+            }
             _ => (),
         }
     }
@@ -92,6 +98,7 @@ impl Tally {
             gaps.extend(replies.gaps(&identity_name(identity), &[1, 2, 3], &ALARMS));
         }
         gaps.extend(self.links.gaps());
+        gaps.extend(self.releases.gaps());
         gaps.extend(self.turned.gaps());
         gaps.extend(self.number_gaps());
         gaps
@@ -132,7 +139,8 @@ impl fmt::Display for Tally {
         for (identity, replies) in self.identities.iter().enumerate() {
             write_row(formatter, &identity_name(identity), replies)?;
         }
-        write!(formatter, "{}{}{}", self.short, self.links, self.turned)?;
+        write!(formatter, "{}{}", self.short, self.links)?;
+        write!(formatter, "{}{}", self.releases, self.turned)?;
         for (&(call, number), count) in &self.numbers {
             writeln!(formatter, "{call:?} with number {number}: {count}")?;
         }

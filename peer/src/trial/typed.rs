@@ -4,6 +4,7 @@ use super::call::Inputs;
 use super::commands::CODES;
 use super::failures::Failures;
 use super::places::Places;
+use super::released::Released;
 use super::replies::{Cycle, Replies};
 use super::states::LINK_AT;
 use super::wire::Wire;
@@ -47,6 +48,7 @@ pub struct Typed {
     crossings: BTreeMap<u8, u64>,
     places: Places,
     failures: Failures,
+    released: Released,
 }
 
 impl Typed {
@@ -57,6 +59,7 @@ impl Typed {
             crossings: BTreeMap::new(),
             places: Places::new(wire),
             failures: Failures::default(),
+            released: Released::new(wire),
         }
     }
 
@@ -67,6 +70,7 @@ impl Typed {
         self.codes[usize::from(reply[0])].add(link, usize::from(alarm), cycle);
         self.places.add(reply[0], alarm, place);
         self.failures.add(cycle, before, after, alarm == 0);
+        self.released.add(cycle, alarm, place, after);
         if cycle == Cycle::Passed && alarm == 0 && crosses_regions(after) {
             *self.crossings.entry(reply[0]).or_insert(0) += 1;
         }
@@ -90,6 +94,7 @@ impl Typed {
         gaps.extend(self.other_codes().gaps("another code", &[], &[8]));
         gaps.extend(self.failures.gaps());
         gaps.extend(self.places.gaps());
+        gaps.extend(self.released.gaps());
         let named = gaps.into_iter();
         named
             .map(|gap| format!("{}{gap}", self.wire.name))
@@ -145,7 +150,11 @@ impl fmt::Display for Typed {
                 "code {code:02X} accepted over more than one region: {count}"
             )?;
         }
-        write!(formatter, "{}{}", self.failures, self.places)
+        write!(
+            formatter,
+            "{}{}{}",
+            self.failures, self.places, self.released
+        )
     }
 }
 

@@ -10,8 +10,12 @@ mod limits;
 mod link_records;
 mod links;
 mod octets;
+mod order;
 mod parameters;
 mod places;
+mod releases;
+mod reserved;
+mod reserved_traces;
 mod reserves;
 mod sheets;
 mod states;
@@ -27,6 +31,7 @@ use super::rig::Rig;
 /// All directed trials.
 pub fn run(rig: &mut Rig) -> Outcome {
     link_records::run(rig)?;
+    releases::run(rig)?;
     buffers::run(rig)?;
     states::run(rig)?;
     turns::run(rig)?;
@@ -43,7 +48,11 @@ pub fn run(rig: &mut Rig) -> Outcome {
     lacking::run(rig)?;
     limits::run(rig)?;
     tolerances::run(rig)?;
+    reserved::run(rig)?;
+    order::run(rig)?;
+    places::run_in_release_2(rig)?;
     sheets::run(rig)?;
     failing_traces::run(rig)?;
-    traces::run(rig)
+    traces::run(rig)?;
+    reserved_traces::run(rig)
 }

@@ -18,7 +18,16 @@ const OCTET_7: Told = (9, 7);
 const OCTET_8: Told = (9, 8);
 
 pub fn run(rig: &mut Rig) -> Outcome {
-    for plan in each_type(plan) {
+    every_field(rig, each_type(plan))
+}
+
+/// The same under release 2, where all that is reserved is zero.
+pub fn run_in_release_2(rig: &mut Rig) -> Outcome {
+    every_field(rig, each_type(|length| plan(length).in_release_2()))
+}
+
+fn every_field(rig: &mut Rig, plans: Vec<Plan>) -> Outcome {
+    for plan in plans {
         take_plan(rig, &plan);
         rig.origin = "directed: places of parameters".to_string();
         parameters(rig, &plan)?;
@@ -148,7 +157,7 @@ fn connects(rig: &mut Rig, plan: &Plan) -> Outcome {
                 let fits = match at {
                     5 => [0, 2, 6].contains(&octet),
                     6 => octet >= 2 || octet == 1 && com_mod != 6,
-                    7 if !plan.wire.names_profile => true,
+                    7 if !plan.wire.names_profile => octet == 0 || !plan.asks_zeros(),
                     _ => octet == good[at],
                 };
                 let told = if fits { ACCEPTED } else { failed };

@@ -1,13 +1,13 @@
 //! Sheets changed octet by octet, cut, and put together from records at will.
 
-use crate::trial::plan::{each_type, tolerance_record, Plan};
+use crate::trial::plan::{each_type, release_record, tolerance_record, Plan};
 use crate::trial::plan::{item, item_record, parameter, parameter_record, region, region_record};
 use crate::trial::probe::{judge_sheet, judge_sheet_briefly, Outcome};
 use crate::trial::rig::Rig;
-use crate::trial::samples::{both_ends, largest, sheet_p, tolerant, Spans};
+use crate::trial::samples::{both_ends, largest, released, sheet_p, tolerant, Spans};
 
-/// Kinds of the records in a sequence, 0 to 6.
-const KINDS: usize = 7;
+/// Kinds of the records in a sequence, 0 to 7.
+const KINDS: usize = 8;
 /// Octets at which a check may turn.
 const TURNS: [u8; 12] = [0, 1, 2, 7, 8, 0x20, 0x21, 0x38, 0x39, 0x7F, 0x80, 0xFF];
 
@@ -17,6 +17,7 @@ pub fn run(rig: &mut Rig) -> Outcome {
     rig.origin = "directed: every octet of a sheet with every value".to_string();
     every_octet(rig, &sheet_p().octets())?;
     every_octet(rig, &tolerant(32, Some(2)).octets())?;
+    every_octet(rig, &sheet_p().in_release_2().octets())?;
     rig.origin = "directed: the largest sheet".to_string();
     largest_sheets(rig)?;
     some_octets_of_the_largest(rig)?;
@@ -46,6 +47,7 @@ fn smallest(rig: &mut Rig) -> Outcome {
     }
     for plan in each_type(|length| tolerant(length, Some(1))) {
         judge_sheet(rig, &plan.octets())?;
+        judge_sheet(rig, &plan.in_release_2().octets())?;
     }
     Ok(())
 }
@@ -64,6 +66,7 @@ fn every_octet(rig: &mut Rig, sheet: &[u8]) -> Outcome {
 fn largest_sheets(rig: &mut Rig) -> Outcome {
     for spans in [Spans::First, Spans::Last, Spans::Crossing] {
         judge_sheet(rig, &largest(16, spans).in_short().octets())?;
+        judge_sheet(rig, &largest(64, spans).in_release_2().octets())?;
         let sheet = largest(64, spans).octets();
         judge_sheet(rig, &sheet)?;
         for at in 0..sheet.len() {
@@ -95,6 +98,8 @@ fn cuts(rig: &mut Rig) -> Outcome {
         sheet_p().octets(),
         tolerant(8, Some(1)).octets(),
         tolerant(16, Some(1)).in_short().octets(),
+        released(16, None, Some(2)).octets(),
+        released(16, Some(1), Some(1)).in_short().octets(),
         largest(48, Spans::Last).octets(),
     ];
     for sheet in sheets {
@@ -141,7 +146,8 @@ fn records_of(kinds: &[usize]) -> Vec<u8> {
             3 => parameter_record(&parameter(u16::from(number), 8, 2)),
             4 => item_record(&item(number, &[7])),
             5 => vec![5, 16, 3, 4],
-            _ => tolerance_record(number % 4),
+            6 => tolerance_record(number % 4),
+            _ => release_record(1 + number % 2),
         });
     }
     octets
@@ -150,7 +156,7 @@ fn records_of(kinds: &[usize]) -> Vec<u8> {
 /// Every pair of octets of one record takes telling values, so that of two
 /// faults of a record the right one has to be told.
 fn pairs_in_records(rig: &mut Rig) -> Outcome {
-    for plan in [sheet_p(), tolerant(16, Some(3))] {
+    for plan in [sheet_p(), released(16, Some(3), Some(2))] {
         let mut start = 0;
         for record in plan.records() {
             change_pairs(rig, &plan, start, record.len())?;

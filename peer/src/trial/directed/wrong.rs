@@ -36,17 +36,17 @@ pub fn run(rig: &mut Rig) -> Outcome {
 }
 
 /// A wrong field: the octets it takes, and what is told of it.
-struct Wrong {
-    at: usize,
-    octets: Vec<u8>,
-    told: Told,
+pub struct Wrong {
+    pub at: usize,
+    pub octets: Vec<u8>,
+    pub told: Told,
 }
 
 /// A command, what is told of it, and its wrong fields in document 01's order.
-struct Case {
-    command: Vec<u8>,
-    told: Told,
-    wrong: Vec<Wrong>,
+pub struct Case {
+    pub command: Vec<u8>,
+    pub told: Told,
+    pub wrong: Vec<Wrong>,
 }
 
 fn at(at: usize, octets: &[u8], told: Told) -> Wrong {
@@ -58,7 +58,7 @@ fn at(at: usize, octets: &[u8], told: Told) -> Wrong {
 }
 
 /// Behind the second octet the first stretch has these rights.
-fn plan(pdu_length: u8, rights: u8) -> Plan {
+pub fn plan(pdu_length: u8, rights: u8) -> Plan {
     Plan {
         regions: vec![
             region(START, 2, 7),
@@ -71,7 +71,7 @@ fn plan(pdu_length: u8, rights: u8) -> Plan {
     }
 }
 
-fn cases(plan: &Plan, rights: u8) -> Vec<Case> {
+pub fn cases(plan: &Plan, rights: u8) -> Vec<Case> {
     let mut cases = vec![identity_case(plan), connect_case(plan)];
     cases.extend([0x01, 0x02].map(|code| parameter_case(plan, code, rights)));
     cases.extend([0x05, 0x06].map(|code| alarm_case(plan, code)));
@@ -204,7 +204,7 @@ fn every_set(rig: &mut Rig, plan: &Plan, case: &Case) -> Outcome {
 }
 
 /// Told in the links that allow the code; link, code and watchdog have place 0.
-fn in_every_link(rig: &mut Rig, plan: &Plan, command: &[u8], told: Told) -> Outcome {
+pub fn in_every_link(rig: &mut Rig, plan: &Plan, command: &[u8], told: Told) -> Outcome {
     let counting = counting_state(plan.pdu_length, LAST_MN, RSN);
     let connect = command[0] == 0x0E;
     let mut unknown = command.to_vec();

@@ -57,8 +57,12 @@ returns-13 : tie.Need-returns-13
 unfolding placeOf
 returns-13 c = sym (ap placeOf (c .before .field .given .1))
 
+returns-14 : tie.Need-returns-14
+unfolding placeOf
+returns-14 c = sym (ap placeOf (c .before .field2 .given .1))
+
 pub place-of-spec : {M : Type 1} → statement M
 place-of-spec =
     tie.close (tie.spec (λ c. search needs) (λ c. search needs) (λ c. search needs) (λ c. search needs) (λ c. search needs) (λ c. search needs) (λ c. search needs)
-    (λ c. search needs) (λ c. search needs) (λ c. search needs) (λ c. search needs) (λ c. search needs) (λ c. search needs)
-    returns returns-2 returns-3 returns-4 returns-5 returns-6 returns-7 returns-8 returns-9 returns-10 returns-11 returns-12 returns-13)
+    (λ c. search needs) (λ c. search needs) (λ c. search needs) (λ c. search needs) (λ c. search needs) (λ c. search needs) (λ c. search needs)
+    returns returns-2 returns-3 returns-4 returns-5 returns-6 returns-7 returns-8 returns-9 returns-10 returns-11 returns-12 returns-13 returns-14)

@@ -1,8 +1,8 @@
 -- `machine::judging::judge` meets its contract: the code, the link, the data.
-use mathlib.Core.Path.{sym, _∙_}
+use mathlib.Core.Path.{sym, ap, _∙_}
 use borrow.Author.Needs.{needs}
 use Rattle.octets.proofs.Pick.{pick-failed, pick-held}
-use Rattle.machine.specs.Judging.{judgeOf}
+use Rattle.machine.specs.Judging.{strayed, judgeOf}
 use Rattle.machine.proofs.judging.judge.Statement.{statement}
 use Rattle.machine.proofs.judging.judge.Tie as tie
 
@@ -20,11 +20,12 @@ returns-2 c =
 returns-3 : tie.Need-returns-3
 unfolding judgeOf
 returns-3 c =
-    c .data-checks .ensures
+    c .beside .ensures
+    ∙ ap (strayed (c .before .before .before .before .before .before .before .args .stray)) (c .before .data-checks .ensures)
     ∙ sym
-    (pick-held _ _ (c .before .before .before .before .is-known .ensures) (c .before .before .before .if1 .left)
-    ∙ pick-held _ _ (c .before .before .is-allowed .ensures) (c .before .if2 .left))
+    (pick-held _ _ (c .before .before .before .before .before .is-known .ensures) (c .before .before .before .before .if1 .left)
+    ∙ pick-held _ _ (c .before .before .before .is-allowed .ensures) (c .before .before .if2 .left))
 
 pub judge-spec : {M : Type 1} → statement M
 judge-spec =
-    tie.close (tie.spec (λ c κs. search needs) returns (λ c κs. search needs) returns-2 (λ c κs. search needs) returns-3)
+    tie.close (tie.spec (λ c κs. search needs) returns (λ c κs. search needs) returns-2 (λ c κs. search needs) (λ c κs. search needs) returns-3)

@@ -74,14 +74,29 @@ no-link kind a b = rw (ne-eqb kind 1 a, ne-eqb kind 5 b)
 returns-7 : tie.Need-returns-7
 unfolding bodyOf sizeOf
 returns-7 c =
-    let n = c .before .match .rest in
+    let k = c .before .match .keys7 in
     c .read-tolerance .ensures
     ∙ sym
+    (ap₂ (λ (n : ℕ) (r : Reading). whole n (c .before .before .before .before .args .rest .now) r)
+    (pick-key 0 _ _ k refl ∙ pick-no _ _ (ap isLink k) ∙ pick-key 2 _ _ k refl ∙ pick-key 3 _ _ k refl ∙ pick-key 4 _ _ k refl)
+    (pick-key 0 _ _ k refl ∙ pick-no _ _ (ap isLink k) ∙ pick-key 2 _ _ k refl ∙ pick-key 3 _ _ k refl ∙ pick-key 4 _ _ k refl ∙ pick-eq _ _ k))
+
+returns-8 : tie.Need-returns-8
+unfolding bodyOf sizeOf
+returns-8 c =
+    let n = c .before .match .rest in
+    let no₄ = n .0 .0 .1 in
+    let no₃ = n .0 .0 .0 .1 in
+    let no₂ = n .0 .0 .0 .0 .1 in
+    let link = no-link _ (n .0 .0 .0 .0 .0 .1) (n .0 .1) in
+    let no₀ = n .0 .0 .0 .0 .0 .0 .1 in
+    c .read-release .ensures
+    ∙ sym
     (ap₂ (λ (m : ℕ) (r : Reading). whole m (c .before .before .before .before .args .rest .now) r)
-    (pick-ne _ _ (n .0 .0 .0 .0 .0 .1) ∙ pick-no _ _ (no-link _ (n .0 .0 .0 .0 .1) (n .1)) ∙ pick-ne _ _ (n .0 .0 .0 .1) ∙ pick-ne _ _ (n .0 .0 .1) ∙ pick-ne _ _ (n .0 .1))
-    (pick-ne _ _ (n .0 .0 .0 .0 .0 .1) ∙ pick-no _ _ (no-link _ (n .0 .0 .0 .0 .1) (n .1)) ∙ pick-ne _ _ (n .0 .0 .0 .1) ∙ pick-ne _ _ (n .0 .0 .1) ∙ pick-ne _ _ (n .0 .1)))
+    (pick-ne _ _ no₀ ∙ pick-no _ _ link ∙ pick-ne _ _ no₂ ∙ pick-ne _ _ no₃ ∙ pick-ne _ _ no₄)
+    (pick-ne _ _ no₀ ∙ pick-no _ _ link ∙ pick-ne _ _ no₂ ∙ pick-ne _ _ no₃ ∙ pick-ne _ _ no₄ ∙ pick-ne _ _ (n .1)))
 
 pub read-body-spec : {M : Type 1} → statement M
 read-body-spec =
-    tie.close (tie.spec (λ c κs. search needs) (λ c κs. search needs) (λ c κs. search needs) (λ c κs. search needs) (λ c κs. search needs) (λ c κs. search needs) returns
-    returns-2 returns-3 returns-4 returns-5 returns-6 returns-7)
+    tie.close (tie.spec (λ c κs. search needs) (λ c κs. search needs) (λ c κs. search needs) (λ c κs. search needs) (λ c κs. search needs) (λ c κs. search needs)
+    (λ c κs. search needs) returns returns-2 returns-3 returns-4 returns-5 returns-6 returns-7 returns-8)

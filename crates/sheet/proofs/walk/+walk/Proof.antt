@@ -7,6 +7,7 @@ use borrow.Fn.Kinds.{In}
 use borrow.Fn.PlainCycle.{Measures, is, falls, and}
 use lib.ListN.{length}
 use Rattle.sheet.specs.Handed.{tells}
+use Rattle.sheet.specs.Walk.{counts}
 use Rattle.sheet.proofs.Walked.{counted-at, walked-fault, walked-end, inside-on, asked-on, walked-on}
 use Rattle.octets.proofs.octet.Reads as octet-reads
 use Rattle.sheet.proofs.reading.read_record.Reads as read-record-reads
@@ -48,7 +49,7 @@ pub +walk-spec : {M : Type 1} → statement M
     (λ c. c .before .pre .1 .0)
     (λ c. c .before .pre .1 .0)
     (λ c. search needs)
-    (λ c κs. let a = c .before .before .args in counted-at (a .whole .now .now) (a .at) (a .so) (c .before .before .pre .1))
+    (λ c κs. let a = c .before .before .args in counted-at (a .whole .now .now) (a .at) (counts (a .regions) (a .parameters) (a .items) (a .tolerances) (a .releases) (a .memory)) (c .before .before .pre .1))
     (λ c. search needs)
     (λ c. search needs)
     -- a fault
@@ -58,16 +59,16 @@ pub +walk-spec : {M : Type 1} → statement M
     let a = start .args in
     let e = c .before .enum-told .given in
     ap (tells (a .whole .now .now)) (c .fault-at .ensures)
-    ∙ walked-fault (a .whole .now .now) (a .at) (a .so) (start .pre .1) _ (c .before .before .before .read-record .ensures) (e .0 .0) (e .1) f h)
+    ∙ walked-fault (a .whole .now .now) (a .at) (counts (a .regions) (a .parameters) (a .items) (a .tolerances) (a .releases) (a .memory)) (start .pre .1) _ (c .before .before .before .read-record .ensures) (e .0 .0) (e .1) f h)
     (λ c κs. search needs)
     -- the end record
-    (λ c κs. let ok = c .before .before .before .before .before .before .before .before .pre .1 in (ok .1 .short, ok .0, ok .1 .sound .memory-room))
+    (λ c κs. let ok = c .before .before .before .before .before .before .before .before .pre .1 in (ok .1 .short, ok .0, ok .1 .sound .memory-room, ok .1 .sound .few-tolerances, ok .1 .sound .few-releases))
     (λ c f h.
     let start = c .before .before .before .before .before .before .before .before .before in
     let a = start .args in
     let r = c .before .before .before .before .read .given in
     c .ended .ensures
-    ∙ walked-end (a .whole .now .now) (a .at) (a .so) (start .pre .1) _ (c .before .before .before .before .before .before .read-record .ensures) (r .0 .0) (r .0 .1 .0) (r .1)
+    ∙ walked-end (a .whole .now .now) (a .at) (counts (a .regions) (a .parameters) (a .items) (a .tolerances) (a .releases) (a .memory)) (start .pre .1) _ (c .before .before .before .before .before .before .read-record .ensures) (r .0 .0) (r .0 .1 .0) (r .1)
     (sym (c .before .before .octet .ensures) ∙ c .before .if1 .taken) f h)
     -- the next record
     (λ c. search needs)
@@ -75,18 +76,18 @@ pub +walk-spec : {M : Type 1} → statement M
     let start = c .before .before .before .before .before .before .before .before in
     let a = start .args in
     let r = c .before .before .before .read .given in
-    let i = inside-on (a .whole .now .now) (a .at) (a .so) (start .pre .1) _ (c .before .before .before .before .before .read-record .ensures) (r .0 .0) (r .0 .1 .0) (r .1)
+    let i = inside-on (a .whole .now .now) (a .at) (counts (a .regions) (a .parameters) (a .items) (a .tolerances) (a .releases) (a .memory)) (start .pre .1) _ (c .before .before .before .before .before .read-record .ensures) (r .0 .0) (r .0 .1 .0) (r .1)
     (λ z. c .if1 .left (c .before .octet .ensures ∙ z)) in
     omega arith)
     (λ c κs.
     let start = c .before .before .before .before .before .before .before .before in
     let a = start .args in
     let r = c .before .before .before .read .given in
-    asked-on (a .whole .now .now) (a .at) (a .so) (start .pre .1) _ (c .before .before .before .before .before .read-record .ensures) (r .0 .0) (r .0 .1 .0) (r .1)
+    asked-on (a .whole .now .now) (a .at) (counts (a .regions) (a .parameters) (a .items) (a .tolerances) (a .releases) (a .memory)) (start .pre .1) _ (c .before .before .before .before .before .read-record .ensures) (r .0 .0) (r .0 .1 .0) (r .1)
     (λ z. c .if1 .left (c .before .octet .ensures ∙ z)) t (start .pre .0))
     (λ c.
     let start = c .before .before .before .before .before .before .before .before .before in
     let a = start .args in
     let r = c .before .before .before .before .read .given in
-    walked-on (a .whole .now .now) (a .at) (a .so) (start .pre .1) _ (c .before .before .before .before .before .before .read-record .ensures) (r .0 .0) (r .0 .1 .0) (r .1)
+    walked-on (a .whole .now .now) (a .at) (counts (a .regions) (a .parameters) (a .items) (a .tolerances) (a .releases) (a .memory)) (start .pre .1) _ (c .before .before .before .before .before .before .read-record .ensures) (r .0 .0) (r .0 .1 .0) (r .1)
     (λ z. c .before .if1 .left (c .before .before .octet .ensures ∙ z)) _ (c .walk .ensures)))

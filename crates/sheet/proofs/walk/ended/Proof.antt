@@ -33,8 +33,9 @@ returns-2 c =
     let s = a .sheet .now in
     let l : length (drop (a .at) s) ≡ length s - a .at = length-drop (a .at) s in
     let last : length (drop (a .at) s) ≤ 1 = omega arith in
+    let p = c .before .before .before .pre in
     ap (tells s) (c .counted .ensures)
-    ∙ tells-counts s (a .so) (omega arith) (omega arith) (omega arith) (omega arith) (omega (arith, c .before .before .before .pre .2))
+    ∙ tells-counts s (a .so) (omega arith) (omega arith) (omega arith) (omega (arith, p .3)) (omega (arith, p .4)) (omega (arith, p .2))
     ∙ sym (pick-ge _ _ last)
 
 pub ended-spec : {M : Type 1} → statement M

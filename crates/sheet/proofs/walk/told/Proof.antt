@@ -19,5 +19,6 @@ returns-2 c = ap (λ (fault : Fault). Faulty fault (c .before .before .before .a
 
 pub told-spec : {M : Type 1} → statement M
 told-spec =
-    tie.close (tie.spec (λ c. search needs) (λ c. search needs) (λ c. search needs) (λ c. search needs) (λ c. search needs) (λ c. search needs) (λ c κs. search needs) returns
+    tie.close (tie.spec (λ c. search needs) (λ c. search needs) (λ c. search needs) (λ c. search needs) (λ c. search needs) (λ c. search needs) (λ c. search needs)
+    (λ c κs. search needs) returns
     (λ c κs. search needs) (λ c. search needs) returns-2)

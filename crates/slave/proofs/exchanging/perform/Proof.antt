@@ -10,6 +10,7 @@ use Rattle.octets.proofs.Pick.{pick-eq, pick-ne}
 use Rattle.frame.specs.Body.{memoryAfter}
 use Rattle.frame.specs.Fields.{commandOf}
 use Rattle.frame.specs.Places.{placeOf}
+use Rattle.frame.specs.Unnamed.{strayOf}
 use Rattle.frame.proofs.Rooms.{fits-stored}
 use Rattle.link.specs.Stored.{octetsOf}
 use Rattle.link.proofs.Back.{written, read-valid}
@@ -55,7 +56,7 @@ store-requires c κs =
     let p = c .before .before .before .before .before .before .before .before .before .before .before .before .before .before .before .before .before .before .pre .0 in
     let o = c .before .before .before .before .before .before .before .before .before .build .result .outcome in
     let f = lent-fits (a .sheet .now) (a .memory .now) (a .command .now) (a .reply .now) (a .layout) (a .st) (ready-lent _ _ _ _ _ _ _ p)
-    (commandOf (a .layout .form) (a .command .now)) o (a .command .now) (c .before .before .before .before .before .before .before .before .before .build .ensures .0) (p .asked ∙ sym (p .lent)) in
+    (commandOf (a .layout .form) (a .command .now)) (strayOf (a .layout .form) (a .layout .release) (a .command .now)) o (a .command .now) (c .before .before .before .before .before .before .before .before .before .build .ensures .0) (p .asked ∙ sym (p .lent)) in
     fits-stored (a .layout .form) (length (a .command .now)) (length (a .memory .now)) (length (a .sheet .now)) (o .effect) (f .1)
 
 returns-2 : tie.Need-returns-2
