@@ -8,16 +8,16 @@ use mathlib.Core.Path.{_≡_, refl, sym, ap, ap₂, subst, _∙_}
 use Prim.Native.Nat.{ℕ, suc, _<_}
 use native.Mathlib.Omega.{arith}
 use borrow.Author.Tests.{eq-eqb, ne-eqb, eqb-true}
-use lib.Dec.{eqb, ltb}
+use lib.Dec.{eqb}
 use lib.ListN.{length, take, drop}
 use Rattle.octets.proofs.Cases.{decided, eq-or-ne}
 use Rattle.law.specs.Words.{when, Every, Some, oneOf}
-use Rattle.law.specs.Sheet.{PduType, enhanced, short, Sheet, sheetOctets, allows}
-use Rattle.law.specs.State.{link, failures}
+use Rattle.law.specs.Sheet.{PduType, enhanced, short, Sheet, sheetOctets}
+use Rattle.law.specs.State.{link}
 use Rattle.law.specs.Memory.{cells, stored}
 use Rattle.law.specs.Table.{Check, check, Row, stray, strayIn, tableOf, table}
-use Rattle.law.specs.Exchange.{Fate, code, missed, refused, checked, judged, fateOf, failing, passing}
-use Rattle.law.specs.Calls.{Result, done}
+use Rattle.law.specs.Exchange.{Fate, code, missed, refused, checked, judged, fateOf, passing}
+use Rattle.law.specs.Calls.{done}
 use Rattle.law.proofs.Held.{length-cells}
 use Rattle.law.proofs.Laid.{when-yes, when-no, stored-none}
 use Rattle.law.proofs.Zeros.{alarmed}
@@ -25,11 +25,11 @@ use Rattle.slave.specs.Answers.{told}
 use Rattle.slave.specs.Exchange.{Left, left, exchangeOf}
 use Rattle.demands.specs.Answered.{Answered, alarmIn}
 use Rattle.demands.specs.Places.{allChecks}
-use Rattle.demands.specs.Release.{ZeroUnlessNamed, ruled, Release1, release2, SomeStray, FirstStray, Beside, TheFirstIsTold, NamedOctets, octetsIn, namedBy}
+use Rattle.demands.specs.Release.{ZeroUnlessNamed, ruled, Release1, release2, SomeStray, FirstStray, TheFirstIsTold, NamedOctets, octetsIn, namedBy}
 use Rattle.demands.proofs.Done.{lawful, answered-done, seen-alarm}
 use Rattle.demands.proofs.Fates.{doneRow, by-type, in-both, fate-kept}
-use Rattle.demands.proofs.Places.{row-of, Unlike, none-judges}
-use Rattle.demands.proofs.Release.{Pair, Pairs, zeroCheck, rows-pair, by-done, low-none, done-same, with-two, valid-too}
+use Rattle.demands.proofs.Places.{row-of, Unlike}
+use Rattle.demands.proofs.Release.{Pair, Pairs, rows-pair, low-none, done-same, with-two, valid-too}
 use Rattle.demands.proofs.Stray.{zero-stray, first-stray}
 
 pub named-octets : NamedOctets

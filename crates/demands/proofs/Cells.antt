@@ -4,8 +4,7 @@
 --     held-alike      what is read and what is stored goes by addresses alone
 use mathlib.Core.Bool.{Bool, true, false, _&&_}
 use mathlib.Core.List.{List, [], _∷_, _++_}
-use mathlib.Core.Logic.{⊎-elim}
-use mathlib.Core.Path.{_≡_, refl, sym, ap, ap₂, subst, _∙_}
+use mathlib.Core.Path.{_≡_, refl, ap₂, subst}
 use Prim.Native.Nat.{ℕ, zero, suc, _+_, _≤_}
 use native.Mathlib.Omega.{arith}
 use lib.Dec.{eqb}
@@ -13,7 +12,7 @@ use lib.ListN.{drop, getD}
 use Rattle.law.specs.Words.{when, bit, Piece, laid}
 use Rattle.law.specs.Sheet.{Region, room}
 use Rattle.law.specs.Memory.{Cell, cellsFrom, cells, mapped, readable, writable, has, hasAll, heldAt, held, stored}
-use Rattle.demands.specs.Granted.{Grants, EachGrants}
+use Rattle.demands.specs.Granted.{EachGrants}
 
 -- cell by cell
 abbrev pub Granting : List Cell → List Cell → Type 0

@@ -2,28 +2,26 @@
 --     rows-grant       the tables of the two sheets, row by row: only checks of rights differ, and what held still holds
 --     fate-granted     a command without alarm 10 has the same fate
 --     exchange-granted and so every exchange, refused or not
-use mathlib.Core.Bool.{Bool, true, false, not, _&&_}
+use mathlib.Core.Bool.{Bool, true, false}
 use mathlib.Core.List.{List, [], _∷_, _++_}
-use mathlib.Core.Logic.{_⊎_, inl, inr, ⊎-elim}
-use mathlib.Core.Path.{_≡_, refl, sym, ap, ap₂, subst, _∙_}
+use mathlib.Core.Logic.{_⊎_, ⊎-elim}
+use mathlib.Core.Path.{_≡_, refl, sym, ap, _∙_}
 use Prim.Native.Nat.{ℕ}
-use native.Mathlib.Omega.{arith}
 use borrow.Author.Tests.{eq-eqb, ne-eqb}
-use lib.Dec.{eqb, ltb}
-use lib.ListN.{length, replicate}
+use lib.ListN.{replicate}
 use Rattle.octets.proofs.Cases.{decided, eq-or-ne}
-use Rattle.law.specs.Words.{when, oneOf, Piece, piece, over}
-use Rattle.law.specs.Sheet.{PduType, enhanced, short, Region, Sheet, WellFormed, sheetOctets, room, allows}
-use Rattle.law.specs.State.{link, failures, validState}
-use Rattle.law.specs.Memory.{cells, mapped, readable, writable, hasAll, hasBefore, held, stored}
+use Rattle.law.specs.Words.{when, oneOf, piece, over}
+use Rattle.law.specs.Sheet.{PduType, enhanced, short, Region, Sheet}
+use Rattle.law.specs.State.{link}
+use Rattle.law.specs.Memory.{cells, mapped, readable, writable, hasAll, hasBefore}
 use Rattle.law.specs.Table.{Check, check, Row, tableOf, table, parameter, address, n}
-use Rattle.law.specs.Exchange.{Fate, fate, code, mn, missed, refused, checked, judged, fateOf, failing, passing, stateAfter, headFor, replyFor}
+use Rattle.law.specs.Exchange.{Fate, fate, code, mn, missed, refused, checked, judged, fateOf, passing, stateAfter, headFor, replyFor}
 use Rattle.law.specs.Calls.{result, done}
 use Rattle.law.proofs.Laid.{when-yes, when-no}
 use Rattle.law.proofs.World.{nth, pieceAt}
 use Rattle.demands.specs.Granted.{EachGrants, withRegions}
 use Rattle.demands.specs.Places.{allChecks}
-use Rattle.demands.proofs.Cells.{Granting, Asks, cells-grant, room-same, readable-asks, writable-asks, all-grant, all-mapped, held-alike, stored-alike}
+use Rattle.demands.proofs.Cells.{Granting, Asks, cells-grant, readable-asks, writable-asks, all-grant, all-mapped, held-alike, stored-alike}
 use Rattle.demands.proofs.Fates.{doneRow}
 
 -- two checks: the same, or both of rights, the second of which holds where the first does

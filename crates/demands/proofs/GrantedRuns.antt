@@ -1,31 +1,30 @@
 -- Request 11: every call, and every sequence of calls, under more rights.
-use mathlib.Core.Bool.{Bool, true, false, not}
+use mathlib.Core.Bool.{true, false, not}
 use mathlib.Core.List.{List, [], _∷_}
 use mathlib.Core.Logic.{⊎-elim}
 use mathlib.Core.Path.{_≡_, refl, sym, ap, ap₂, _∙_}
 use Prim.Native.Nat.{ℕ, suc, _<_, _≤_}
 use native.Mathlib.Omega.{arith}
-use borrow.Author.Tests.{eq-eqb, ne-eqb}
-use lib.Dec.{eqb, ltb}
+use lib.Dec.{eqb}
 use lib.ListN.{length}
 use Rattle.octets.specs.Pick.{pick}
 use Rattle.octets.proofs.Cases.{decided, eq-or-ne, lt-or-le}
-use Rattle.octets.proofs.Pick.{pick-same, pick-differ, pick-lt, pick-ge}
+use Rattle.octets.proofs.Pick.{pick-differ, pick-lt, pick-ge}
 use Rattle.law.specs.Sheet.{Region, Sheet, WellFormed, sheetOctets, room, allows}
 use Rattle.law.specs.State.{validState}
-use Rattle.law.specs.Exchange.{Fate, fateOf}
-use Rattle.law.specs.Calls.{Result, done}
+use Rattle.law.specs.Exchange.{fateOf}
+use Rattle.law.specs.Calls.{done}
 use Rattle.law.proofs.Clauses.{state-yes, state-no}
 use Rattle.law.proofs.Complete.{complete}
 use Rattle.law.proofs.Layouts.{layoutFor}
 use Rattle.link.specs.Stored.{fieldsOf, stateOf}
 use Rattle.link.specs.declared.state.LinkState.{LinkState}
-use Rattle.replay.specs.Replay.{Replayed, replayed, onStep, playOf, replayOf}
+use Rattle.replay.specs.Replay.{replayed, onStep, playOf, replayOf}
 use Rattle.replay.specs.Trace.{Traced, checkedForm, tracedOf}
 use Rattle.slave.specs.Answers.{told, onState}
-use Rattle.slave.specs.Calls.{After, resetOf, enableOf, turnOf}
-use Rattle.slave.specs.Exchange.{Left, left, refusalOf, exchanged, exchangeOf}
-use Rattle.slave.specs.Wanted.{Stepped, steppedOf}
+use Rattle.slave.specs.Calls.{resetOf, enableOf, turnOf}
+use Rattle.slave.specs.Exchange.{Left, left, refusalOf, exchangeOf}
+use Rattle.slave.specs.Wanted.{steppedOf}
 use Rattle.slave.proofs.Order.{on-valid, on-invalid, on-state, no-refusal}
 use Rattle.demands.specs.Answered.{Answered, alarmIn}
 use Rattle.demands.specs.Granted.{EachGrants, withRegions, NoTen, NoTenIn, NoTenBy, NeverTen, MoreRightsChangeNothing}

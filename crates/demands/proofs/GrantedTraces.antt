@@ -7,21 +7,20 @@ use Prim.Native.Nat.{ℕ, zero, suc, _+_, _≤_, _<_}
 use native.Mathlib.Omega.{arith}
 use lib.ListN.{length, replicate}
 use Rattle.octets.proofs.Pick.{pick-eq}
-use Rattle.law.specs.Words.{when, bit, Every, laid, overFrom}
+use Rattle.law.specs.Words.{when, bit, Every}
 use Rattle.law.specs.Sheet.{enhanced, Region, Sheet, WellFormed, sheetOctets}
 use Rattle.law.specs.State.{validState}
-use Rattle.law.specs.Memory.{has, hasAll, hasBefore, heldAt, held}
+use Rattle.law.specs.Memory.{has, hasAll, hasBefore}
 use Rattle.law.specs.Table.{parameterOf, itemOf}
 use Rattle.law.specs.Exchange.{refused, checked, judged, fateOf}
-use Rattle.replay.specs.Replay.{replayOf}
 use Rattle.replay.specs.Trace.{Traced, tracedOf}
 use Rattle.slave.specs.Exchange.{Left, exchangeOf}
-use Rattle.slave.specs.Wanted.{Stepped, stepped, differsAt, steppedOf}
+use Rattle.slave.specs.Wanted.{Stepped, differsAt, steppedOf}
 use Rattle.slave.proofs.Differs.{differs-self}
 use Rattle.demands.specs.Answered.{Answered, alarmIn}
-use Rattle.demands.specs.Granted.{EachGrants, withRegions, NoTenIn, TraceAgreesToo, NotWithoutIt}
+use Rattle.demands.specs.Granted.{NoTenIn, TraceAgreesToo, NotWithoutIt}
 use Rattle.demands.specs.Replays.{RepliesOf, callsOf, runReplies, traceReplies}
-use Rattle.demands.specs.Sequences.{Call, Exchange, callOf, runOf}
+use Rattle.demands.specs.Sequences.{Exchange, callOf, runOf}
 use Rattle.demands.proofs.Agreed.{traces-have-replies}
 use Rattle.demands.proofs.Done.{answered-done, seen-alarm}
 use Rattle.demands.proofs.GrantedRuns.{replay-granted}

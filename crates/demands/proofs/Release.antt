@@ -1,7 +1,7 @@
 -- Request 13: both releases come to the same where the octets that a command does not name are zero.
 --     rows-pair        the tables of the two sheets, row by row: they differ in one check
 --     fate-same        where those octets are zero, a command's fate is the same
-use mathlib.Core.Bool.{Bool, true, false, not, _&&_}
+use mathlib.Core.Bool.{true, false, not}
 use mathlib.Core.List.{List, [], _∷_, _++_}
 use mathlib.Core.Logic.{_⊎_, ⊎-elim}
 use mathlib.Core.Path.{_≡_, refl, sym, ap, ap₂, subst, _∙_}

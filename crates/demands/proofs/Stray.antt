@@ -6,14 +6,14 @@ use mathlib.Core.Bool.{Bool, true, false, _||_}
 use mathlib.Core.List.{List, [], _∷_, _++_}
 use mathlib.Core.Logic.{_⊎_, inl, inr, ⊎-elim}
 use mathlib.Core.Path.{_≡_, refl, sym, ap, subst, _∙_}
-use Prim.Native.Nat.{ℕ, zero, suc, _+_, _≤_, _<_}
+use Prim.Native.Nat.{ℕ, zero, suc, _+_, _<_}
 use native.Mathlib.Nat.{add-zero}
 use native.Mathlib.Omega.{arith}
 use borrow.Author.Tests.{eq-eqb, eqb-true}
 use lib.Dec.{eqb}
 use lib.ListN.{length, getD}
 use Rattle.octets.proofs.Cases.{decided}
-use Rattle.law.specs.Words.{when, octet}
+use Rattle.law.specs.Words.{when}
 use Rattle.law.specs.Sheet.{PduType, enhanced, short}
 use Rattle.law.specs.Table.{Run, headNamed, isNamed, unnamedBits, strayFrom, stray}
 use Rattle.law.proofs.Laid.{when-yes, when-no}

@@ -16,12 +16,12 @@ use Rattle.law.specs.Sheet.{PduType, short, Parameter, Sheet, GoodLength, isRel
 use Rattle.law.specs.State.{link, mnKnown, lastMn, rsn, commandLatch, communicationLatch}
 use Rattle.law.specs.Memory.{cells, readable, writable, held, stored}
 use Rattle.law.specs.Table.{check, Row, row, strayIn, parameterOf, itemOf, shortTable, tableOf}
-use Rattle.law.specs.Exchange.{Fate, code, wdt, missed, checked, judged, fateOf, failing, passing, stateAfter, replyFor, headFor, lowStatus}
+use Rattle.law.specs.Exchange.{Fate, code, wdt, checked, judged, fateOf, failing, passing, stateAfter, replyFor, headFor, lowStatus}
 use Rattle.law.proofs.Codes.{by-code}
 use Rattle.law.proofs.Laid.{when-no}
 use Rattle.law.proofs.World.{nth}
 use Rattle.slave.specs.Answers.{told}
-use Rattle.slave.specs.Exchange.{Left, left, exchangeOf}
+use Rattle.slave.specs.Exchange.{left}
 use Rattle.demands.specs.Answered.{Answered}
 use Rattle.demands.specs.Short.{SameNamed, OthersAreIgnored}
 use Rattle.demands.proofs.Done.{lawful, answered-done}

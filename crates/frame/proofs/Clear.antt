@@ -8,12 +8,12 @@ use mathlib.Core.Path.{_≡_, refl, sym, ap, ap₂, subst, _∙_}
 use Prim.Native.Nat.{ℕ, zero, suc, _+_, _-_, _%_, _≤_, _<_}
 use native.Mathlib.Omega.{arith}
 use borrow.Author.Tests.{eq-eqb, eqb-true, lt-ltb, le-leb}
-use lib.Dec.{eqb, leb, ltb}
+use lib.Dec.{eqb, ltb}
 use lib.ListN.{length, getD, take, drop}
 use Rattle.octets.specs.Parts.{allZero}
 use Rattle.octets.specs.Pick.{pick}
 use Rattle.octets.proofs.Cases.{lt-or-le, eq-or-ne}
-use Rattle.octets.proofs.Pick.{pick-yes, pick-lt, pick-ge, pick-eq, pick-ne, pick-both}
+use Rattle.octets.proofs.Pick.{pick-yes, pick-ge, pick-eq, pick-ne, pick-both}
 use Rattle.sheet.specs.declared.walk.Form.{Form}
 use Rattle.sheet.specs.declared.walk.Form.the-variants.{Enhanced, Short}
 use Rattle.frame.specs.Clear.{HeadClear, unnamedEnd, behindRun}

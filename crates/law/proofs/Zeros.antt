@@ -12,7 +12,7 @@ use lib.Dec.{eqb}
 use lib.ListN.{length}
 use Rattle.octets.specs.Pick.{pick}
 use Rattle.octets.proofs.Cases.{eq-or-ne}
-use Rattle.octets.proofs.Pick.{pick-yes, pick-no, pick-eq, pick-ne}
+use Rattle.octets.proofs.Pick.{pick-yes, pick-no, pick-ne}
 use Rattle.frame.specs.Unnamed.{namesOf, isNamed as isNamedThere, unnamedBits as bitsThere, strayFrom as strayThere, strayAs}
 use Rattle.frame.specs.declared.unnamed.Run.{Run as Stretch}
 use Rattle.frame.proofs.Named.{named, stray-at}

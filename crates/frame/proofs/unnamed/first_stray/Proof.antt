@@ -1,8 +1,6 @@
 -- `frame::unnamed::first_stray` meets its contract: the k octets passed may be what they are, so the rest decides.
 use Prim.Native.Nat.{_-_}
-use mathlib.Core.Bool.{true, false, not}
 use mathlib.Core.Path.{_≡_, refl, sym, _∙_}
-use native.Mathlib.Omega.{arith}
 use borrow.Author.Needs.{needs}
 use borrow.Author.Tests.{not-true, not-false}
 use lib.ListN.{length, drop}

@@ -1,11 +1,11 @@
 -- `frame::unnamed::is_clear` meets its contract: the parts that are asked are all that is not named.
 use mathlib.Core.Bool.{Bool, true, false, _&&_}
-use mathlib.Core.Path.{_≡_, refl, sym, ap, ap₂, subst, _∙_}
+use mathlib.Core.Path.{_≡_, refl, ap₂, subst, _∙_}
 use Prim.Native.Nat.{ℕ, _≤_, _<_}
 use native.Mathlib.Omega.{arith}
 use borrow.Author.Needs.{needs}
 use lib.Dec.{ltb}
-use lib.ListN.{length, getD}
+use lib.ListN.{getD}
 use Rattle.octets.specs.Pick.{pick}
 use Rattle.frame.proofs.Clear.{clear-none}
 use Rattle.frame.proofs.unnamed.is_clear.Statement.{statement}

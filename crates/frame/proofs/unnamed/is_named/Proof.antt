@@ -1,6 +1,5 @@
 -- `frame::unnamed::is_named` meets its contract, type by type.
 use mathlib.Core.Bool.{Bool, true, false, _||_}
-use mathlib.Core.List.{List}
 use mathlib.Core.Path.{_≡_, refl, sym, ap, ap₂, _∙_}
 use borrow.Author.Needs.{needs}
 use Rattle.sheet.specs.declared.walk.Form.{Form}

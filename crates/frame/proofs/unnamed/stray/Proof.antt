@@ -1,9 +1,9 @@
 -- `frame::unnamed::stray` meets its contract: release 1 asks nothing.
-use mathlib.Core.Path.{_≡_, sym, ap, _∙_}
+use mathlib.Core.Path.{sym, ap, _∙_}
 use Prim.Native.Nat.{ℕ}
 use borrow.Author.Needs.{needs}
 use Rattle.octets.proofs.Pick.{pick-eq, pick-ne}
-use Rattle.frame.specs.Unnamed.{namesFor, namesOf, fieldsAt, writtenAt, strayFrom, strayAs, strayOf}
+use Rattle.frame.specs.Unnamed.{namesFor, fieldsAt, writtenAt, strayFrom, strayAs, strayOf}
 use Rattle.frame.proofs.unnamed.stray.Statement.{statement}
 use Rattle.frame.proofs.unnamed.stray.Tie as tie
 
