@@ -40,9 +40,9 @@ checked() {
     SPOIL=$2 $under "$1" "$3" "$seed" --blocks >"$out/log" 2>&1
 }
 
-# must_see COMPARE FAULT WORDS NAME: what the checker has to see, with a fault of spoil.c or, with 0, one of the archive; the words may go over lines.
+# must_see COMPARE FAULT WORDS NAME: what the checker has to see in $tries exchanges, with a fault of spoil.c or, with 0, one of the archive; the words may go over lines.
 must_see() {
-    if checked "$1" "$2" 20000 || ! tr '\n' ' ' <"$out/log" | grep -Eq "$3"; then
+    if checked "$1" "$2" "${tries:-20000}" || ! tr '\n' ' ' <"$out/log" | grep -Eq "$3"; then
         cat "$out/log"
         echo "$checker: not seen: $4" >&2
         exit 1
