@@ -15,5 +15,6 @@ pub mod Table
 pub mod Exchange
 pub mod Calls
 pub mod Trace
+pub mod Difference
 pub mod Promises
 pub mod ByTables
