@@ -1,6 +1,7 @@
 -- What a C host is told: an answer as one number, document 01's number + 2^32 × place.
 use Prim.Native.Nat.{ℕ, _+_, _*_}
 use mathlib.Core.List.{List}
+use Rattle.difference.specs.Difference.{Listed}
 use Rattle.replay.specs.Replay.{Replayed}
 use Rattle.slave.specs.declared.answers.Answer.{Answer}
 use Rattle.sheet.specs.declared.walk.Verdict.{Verdict}
@@ -55,3 +56,14 @@ packedReplay answer state memory = record { answer = answer; state = state; memo
 
 abbrev pub byReplay : Replayed → PackedReplay
 byReplay r = packedReplay (packed (r .answer)) (r .state) (r .memory)
+
+-- what a call of difference leaves behind
+pub record PackedList : Type 0 where
+  pub answer : ℕ
+  pub list : List ℕ
+
+abbrev pub packedList : ℕ → List ℕ → PackedList
+packedList answer list = record { answer = answer; list = list }
+
+abbrev pub byDifference : Listed → PackedList
+byDifference l = packedList (packed (l .answer)) (l .list)

@@ -1,15 +1,16 @@
 // The slave's calls for C hosts: numbers and byte slices alone cross this boundary, and every call checks every lent length itself.
-// An answer is one number: document 01's, or for a replay document 02's or our own, + 2^32 × place; of `t24_lengths` it is L + 2^32 × the memory's length, of
+// An answer is one number: document 01's, or for a replay or a difference document 02's or our own, + 2^32 × place; of `t24_lengths` it is L + 2^32 × the memory's length, of
 // `t24_version` the release.
 use sheet::walk::Verdict;
 use slave::answers::Answer;
 ghost use mathlib.Core.Path.{_≡_};
+ghost use Rattle.difference.specs.Difference.{differenceOf};
 ghost use Rattle.replay.specs.Replay.{replayOf};
 ghost use Rattle.sheet.specs.Walk.{verdictOf};
 ghost use Rattle.slave.specs.Answers.{sheetAnswer};
 ghost use Rattle.slave.specs.Calls.{resetOf, enableOf, turnOf};
 ghost use Rattle.slave.specs.Exchange.{exchangeOf};
-ghost use Rattle.type24.specs.Packed.{release, packed, packedAfter, afterCall, packedLeft, leftByCall, lengthsOf, packedReplay, byReplay};
+ghost use Rattle.type24.specs.Packed.{release, packed, packedAfter, afterCall, packedLeft, leftByCall, lengthsOf, packedReplay, byReplay, packedList, byDifference};
 
 fn pack(answer: Answer) -> u64
     ensures { λ r. ⌜ r ≡ packed answer ⌝ }
@@ -86,4 +87,13 @@ pub extern "C" fn t24_replay(sheet: &[u8], state: &mut [u8], memory: &mut [u8], 
     ensures { λ r. ⌜ packedReplay r (now (state .exit)) (now (memory .exit)) ≡ byReplay (replayOf (now (sheet .entry)) (now (state .entry)) (now (memory .entry)) (now (trace .entry))) ⌝ }
 {
     pack(replay::playing::replay(sheet, state, memory, trace))
+}
+
+// What changed between two sheets: 0 with the length of the list, 28 with the length that it needs, or a fault of the first sheet, or of the second, ten
+// higher, with its place. A refusal writes nothing.
+#[no_mangle]
+pub extern "C" fn t24_difference(first: &[u8], second: &[u8], list: &mut [u8]) -> u64
+    ensures { λ r. ⌜ packedList r (now (list .exit)) ≡ byDifference (differenceOf (now (first .entry)) (now (second .entry)) (now (list .entry))) ⌝ }
+{
+    pack(difference::whole::difference(first, second, list))
 }
