@@ -31,6 +31,7 @@ use Rattle.law.proofs.OneSheet.{one-sheet}
 use Rattle.law.proofs.Place.{fault-told}
 use Rattle.law.proofs.Plays.{leavesReplay, replay-good}
 use Rattle.law.proofs.Sound.{sound}
+use Rattle.law.proofs.Told.{differences-told}
 use Rattle.law.proofs.Traces.{form-exists, one-form}
 
 no-fault : {f : Fault} {p : ℕ} {lay : Layout} → Valid lay ≡ Faulty f p → ⊥
@@ -160,4 +161,5 @@ by-tables = record {
       (replays-good sheet s m trace) (replays-only s m trace) (replays-bad sheet s m trace)
       (hostHas a s′ m′ []) (λ p. ap (λ (x : PackedReplay). hostHas (x .answer) (x .state) (x .memory) []) p)
       (λ p. ap (λ (x : Result). packedReplay (x .answer) (x .state) (x .memory)) p);
+  differences = λ first second lent a list o n. differences-told first second lent o n a list;
 }

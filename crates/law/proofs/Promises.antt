@@ -10,4 +10,4 @@ use contract.Monad.{Fun}
 use Rattle.law.specs.Promises.{Promises}
 
 pub promises : {M : Type 1} (𝓤 : URA M) (H : Heap 𝓤) (A : Atoms 𝓤) (mem : Memory → SProp 𝓤) (run : Routine → Fun 𝓤) → Promises 𝓤 H A mem run
-promises 𝓤 H A mem run = record { of-sheet = refl; of-lengths = refl; of-reset = refl; of-enable = refl; of-turn = refl; of-version = refl; of-exchange = refl; of-replay = refl }
+promises 𝓤 H A mem run = record { of-sheet = refl; of-lengths = refl; of-reset = refl; of-enable = refl; of-turn = refl; of-version = refl; of-exchange = refl; of-replay = refl; of-difference = refl }

@@ -15,12 +15,13 @@ use contract.Monad.{Fun, fact}
 use denote.Ref.{now}
 use denote.Triple.Clauses.{Ended, Clauses, AtExit, closing}
 use denote.Triple.Entry.{Args, Res}
+use Rattle.difference.specs.Difference.{differenceOf}
 use Rattle.replay.specs.Replay.{replayOf}
 use Rattle.sheet.specs.Walk.{verdictOf}
 use Rattle.slave.specs.Answers.{sheetAnswer}
 use Rattle.slave.specs.Calls.{resetOf, enableOf, turnOf}
 use Rattle.slave.specs.Exchange.{exchangeOf}
-use Rattle.type24.specs.Packed.{packed, packedAfter, afterCall, packedLeft, leftByCall, lengthsOf, packedReplay, byReplay}
+use Rattle.type24.specs.Packed.{packed, packedAfter, afterCall, packedLeft, leftByCall, lengthsOf, packedReplay, byReplay, packedList, byDifference}
 use Rattle.type24.proofs.t24_sheet as t24-sheet
 use Rattle.type24.proofs.t24_lengths as t24-lengths
 use Rattle.type24.proofs.t24_reset as t24-reset
@@ -29,6 +30,7 @@ use Rattle.type24.proofs.t24_turn as t24-turn
 use Rattle.type24.proofs.t24_version as t24-version
 use Rattle.type24.proofs.t24_exchange as t24-exchange
 use Rattle.type24.proofs.t24_replay as t24-replay
+use Rattle.type24.proofs.t24_difference as t24-difference
 
 -- a is the answer, s the state, m the memory, c the command, r the reply; a buffer with a prime is what it holds after the call
 abbrev pub SheetPromise : List ℕ → ℕ → Type 0
@@ -56,6 +58,10 @@ ExchangePromise sheet s m c r a s′ m′ r′ = packedLeft a s′ m′ r′ ≡
 abbrev pub ReplayPromise : List ℕ → List ℕ → List ℕ → List ℕ → ℕ → List ℕ → List ℕ → Type 0
 ReplayPromise sheet s m trace a s′ m′ = packedReplay a s′ m′ ≡ byReplay (replayOf sheet s m trace)
 
+-- l is the buffer lent for the list
+abbrev pub DifferencePromise : List ℕ → List ℕ → List ℕ → ℕ → List ℕ → Type 0
+DifferencePromise first second l a l′ = packedList a l′ ≡ byDifference (differenceOf first second l)
+
 -- a contract that asks nothing, and ensures one fact of what is lent, of the answer, and of what is lent as it stands after the call
 abbrev pub Only : {M : Type 1} (𝓤 : URA M) (T : Ended)
     → ((κs : Lfts (T .signature .lifetimes)) → Args (T .signature) κs → Res (T .signature) κs → AtExit T κs → Type 0) → Clauses 𝓤 T
@@ -82,3 +88,6 @@ pub record Promises {M : Type 1} (𝓤 : URA M) (H : Heap 𝓤) (A : Atoms 𝓤)
   pub of-replay : t24-replay.spec 𝓤 H A mem run
       ≡ closing 𝓤 H A t24-replay.ended (Only 𝓤 t24-replay.ended (λ κs lent a after.
       ReplayPromise (now (lent .0)) (now (lent .1 .0)) (now (lent .1 .1 .0)) (now (lent .1 .1 .1 .0)) a (now (after .1 .0)) (now (after .1 .1 .0))))
+  pub of-difference : t24-difference.spec 𝓤 H A mem run
+      ≡ closing 𝓤 H A t24-difference.ended (Only 𝓤 t24-difference.ended (λ κs lent a after.
+      DifferencePromise (now (lent .0)) (now (lent .1 .0)) (now (lent .1 .1 .0)) a (now (after .1 .1 .0))))
