@@ -1,10 +1,14 @@
 -- The owner's page, proved.
 use Rattle.law.proofs.ByTables.{by-tables, one-reading}
 use Rattle.law.proofs.Promises.{promises}
-use Rattle.demands.specs.Demands.{FirstDemand, SecondDemand, ThirdDemand, IdlePrograms, OnTheBench, Request1, Request3, Request5, Request6, Request7, Request8, Request9, Request11, Request13}
+use Rattle.demands.specs.Demands.{FirstDemand, SecondDemand, ThirdDemand, IdlePrograms, OnTheBench, Request1, Request2, Request3, Request5, Request6, Request7, Request8, Request9, Request11, Request13}
 use Rattle.demands.proofs.Agreed.{traces-have-replies, agrees-exactly}
 use Rattle.demands.proofs.Alone.{refuses-all-keeps-secrets, single-reply-keeps-secrets, stores-nothing-keeps-secrets, echoes-afterwards-keeps-secrets, invents-rsn-keeps-secrets, invents-rsn-agrees-where-reached}
 use Rattle.demands.proofs.Bench.{sheet-p-is-valid, bench-cases}
+use Rattle.demands.proofs.Changed.{one-list, empty-if-equal, applied-gives-second, read-one-way}
+use Rattle.demands.proofs.Changed.{one-for-a-record, unchanged-is-not-listed, bits-are-fields}
+use Rattle.demands.proofs.ChangedCall.{the-call-tells-it, refused-writes-nothing}
+use Rattle.demands.proofs.ChangedShown.{shown}
 use Rattle.demands.proofs.Cut.{cut-in-two}
 use Rattle.demands.proofs.CutWhole.{forms-join, replay-cut-in-two}
 use Rattle.demands.proofs.Exact.{acceptance-is-exact, rights-over-whole-span}
@@ -72,6 +76,20 @@ on-the-bench = record { sheet-p = sheet-p-is-valid; cases = bench-cases; cases-b
 
 pub request-1 : Request1
 request-1 = record { the-identity-comes-back = identity-comes-back; control-is-ignored = control-is-ignored }
+
+pub request-2 : Request2
+request-2 = record {
+  one-list = one-list;
+  one-for-a-record = one-for-a-record;
+  unchanged-is-not-listed = unchanged-is-not-listed;
+  bits-are-fields = bits-are-fields;
+  empty-if-equal = empty-if-equal;
+  applied-gives-the-second = applied-gives-second;
+  octets-are-read-one-way = read-one-way;
+  the-call-tells-it = the-call-tells-it;
+  a-refused-one-writes-nothing = refused-writes-nothing;
+  shown = shown;
+}
 
 pub request-3 : Request3
 request-3 = record {

@@ -37,6 +37,9 @@ pub mod GrantedTraces
 pub mod Folded
 pub mod Cut
 pub mod Unique
+pub mod Changed
+pub mod ChangedCall
+pub mod ChangedShown
 pub mod Reached
 pub mod Playing
 pub mod CutWhole

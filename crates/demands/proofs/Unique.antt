@@ -2,12 +2,13 @@
 use mathlib.Core.Path.{_≡_, sym, ap, _∙_}
 use Prim.Native.Nat.{ℕ}
 use mathlib.Core.List.{List}
+use Rattle.difference.specs.Difference.{Listed, listed}
 use Rattle.slave.specs.Wanted.{stepped, Performed, performed}
 use Rattle.replay.specs.Replay.{Replayed, replayed}
 use Rattle.slave.specs.declared.answers.Answer.{Answer}
 use Rattle.slave.specs.Calls.{After, after}
 use Rattle.slave.specs.Exchange.{Left, left}
-use Rattle.type24.specs.Packed.{PackedAfter, packedAfter, PackedLeft, packedLeft, PackedReplay, packedReplay}
+use Rattle.type24.specs.Packed.{PackedAfter, packedAfter, PackedLeft, packedLeft, PackedReplay, packedReplay, PackedList, packedList}
 use Rattle.demands.specs.Unique.{OneAnswer, OneAnswers}
 
 pub one-answer : OneAnswer
@@ -61,6 +62,16 @@ of-replayed defined r q s t m n a b =
     let e = one-answer Replayed (replayed r s m) (replayed q t n) defined a b in
     (ap (λ (x : Replayed). x .answer) e, ap (λ (x : Replayed). x .state) e, ap (λ (x : Replayed). x .memory) e)
 
+of-packed-list : (defined : PackedList) (r q : ℕ) (s t : List ℕ) → packedList r s ≡ defined → packedList q t ≡ defined → (r ≡ q) × (s ≡ t)
+of-packed-list defined r q s t a b =
+    let e = one-answer PackedList (packedList r s) (packedList q t) defined a b in
+    (ap (λ (x : PackedList). x .answer) e, ap (λ (x : PackedList). x .list) e)
+
+of-listed : (defined : Listed) (r q : Answer) (s t : List ℕ) → listed r s ≡ defined → listed q t ≡ defined → (r ≡ q) × (s ≡ t)
+of-listed defined r q s t a b =
+    let e = one-answer Listed (listed r s) (listed q t) defined a b in
+    (ap (λ (x : Listed). x .answer) e, ap (λ (x : Listed). x .list) e)
+
 pub one-answers : OneAnswers
 one-answers = record {
   of-every-promise = one-answer;
@@ -71,6 +82,7 @@ one-answers = record {
   t24-turn = λ sheet old state r q s t a b. of-packed-after _ r q s t a b;
   t24-exchange = λ sheet state memory command reply r q s t m n o p a b. of-packed-left _ r q s t m n o p a b;
   t24-replay = λ sheet state memory trace r q s t m n a b. of-packed-replay _ r q s t m n a b;
+  t24-difference = λ first second list r q s t a b. of-packed-list _ r q s t a b;
   slave-reset = λ sheet state r q s t a b. of-after _ r q s t a b;
   slave-enable = λ sheet state r q s t a b. of-after _ r q s t a b;
   slave-turn = λ sheet old state r q s t a b. of-after _ r q s t a b;
@@ -78,4 +90,5 @@ one-answers = record {
   slave-perform = λ sheet lay st state memory command wanted d e s t m n o p a b. of-performed _ d e s t m n o p a b;
   replay-step = λ sheet l state memory room command reply d e s t m n o p a b. of-performed _ d e s t m n o p a b;
   replay-replay = λ sheet state memory trace r q s t m n a b. of-replayed _ r q s t m n a b;
+  difference-difference = λ first second list r q s t a b. of-listed _ r q s t a b;
 }

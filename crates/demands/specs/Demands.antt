@@ -14,6 +14,7 @@ use Rattle.law.specs.Promises.{Promises}
 use Rattle.slave.specs.Exchange.{Left}
 use Rattle.demands.specs.Accepted.{AcceptanceIsExact, RightsOverWholeSpan}
 use Rattle.demands.specs.Bench.{SheetPIsValid, BenchCases}
+use Rattle.demands.specs.Changed.{OneList, EmptyIfEqual, AppliedGivesSecond, ReadOneWay, OneForARecord, UnchangedIsNotListed, BitsAreFields, TheCallTellsIt, RefusedWritesNothing, Shown}
 use Rattle.demands.specs.Granted.{MoreRightsChangeNothing, TraceAgreesToo, NotWithoutIt}
 use Rattle.demands.specs.Hidden.{Demand3}
 use Rattle.demands.specs.Identity.{IdentityComesBack, ControlIsIgnored}
@@ -84,6 +85,25 @@ pub record Request1 : Type 0 where
   pub the-identity-comes-back : IdentityComesBack
   -- of octets 2 and 3 nothing else shows in release 1 of the drive rules: answers, states and memories are the same, and the replies differ in those two bits alone
   pub control-is-ignored : ControlIsIgnored
+
+-- Document 02, request 2, "What changed between two sheets". Demand 1 for its call is in `each-call-answers` and `which-number-and-place` above, and here.
+pub record Request2 : Type 0 where
+  -- "lists each difference of two sheets once, in the order .."
+  pub one-list : OneList
+  pub one-for-a-record : OneForARecord
+  pub unchanged-is-not-listed : UnchangedIsNotListed
+  -- "changed, with the field"
+  pub bits-are-fields : BitsAreFields
+  -- "The list is empty exactly when the sheets are equal."
+  pub empty-if-equal : EmptyIfEqual
+  -- "Applied to the first it gives the second; that is proved."
+  pub applied-gives-the-second : AppliedGivesSecond
+  pub octets-are-read-one-way : ReadOneWay
+  -- "28, exactly when the list is longer than the lent buffer. These write nothing; octets behind the list stay."
+  pub the-call-tells-it : TheCallTellsIt
+  pub a-refused-one-writes-nothing : RefusedWritesNothing
+  -- a case of our own
+  pub shown : Shown
 
 -- Document 02, request 3, "Say which octet was wrong". Demands 1 to 3 and the bench cases above are of the machine that tells it.
 pub record Request3 : Type 0 where

@@ -17,6 +17,7 @@ pub mod Short
 pub mod Release
 pub mod Replays
 pub mod Granted
+pub mod Changed
 pub mod Unique
 pub mod Bench
 pub mod LawBench

@@ -1,8 +1,10 @@
 -- "That two answers meeting one statement are equal is proved." Every promise of a callable function is one equation with a definition; so one law
--- serves each, and for every public function with more than one output it is spelled out: the calls of a C host, those of `slave`, and those of `replay`.
+-- serves each, and for every public function with more than one output it is spelled out: the calls of a C host, those of `slave`, of `replay` and of
+-- `difference`.
 use Prim.Native.Nat.{ℕ}
 use mathlib.Core.List.{List}
 use mathlib.Core.Path.{_≡_}
+use Rattle.difference.specs.Difference.{listed, differenceOf}
 use Rattle.link.specs.declared.state.LinkState.{LinkState}
 use Rattle.sheet.specs.Walk.{verdictOf}
 use Rattle.sheet.specs.declared.walk.Layout.{Layout}
@@ -12,7 +14,7 @@ use Rattle.slave.specs.Exchange.{left, exchanged, exchangeOf}
 use Rattle.slave.specs.Wanted.{stepped, performed, performedOf}
 use Rattle.slave.specs.declared.answers.Answer.{Answer}
 use Rattle.replay.specs.Replay.{recordLeaves, replayed, replayOf}
-use Rattle.type24.specs.Packed.{packed, packedAfter, afterCall, packedLeft, leftByCall, lengthsOf, packedReplay, byReplay}
+use Rattle.type24.specs.Packed.{packed, packedAfter, afterCall, packedLeft, leftByCall, lengthsOf, packedReplay, byReplay, packedList, byDifference}
 
 -- the law: two values that equal one definition are equal
 abbrev pub OneAnswer : Type 1
@@ -54,6 +56,12 @@ OnePackedReplay =
     → packedReplay r s m ≡ byReplay (replayOf sheet state memory trace)
     → packedReplay q t n ≡ byReplay (replayOf sheet state memory trace)
     → (r ≡ q) × (s ≡ t) × (m ≡ n)
+
+-- t24_difference
+abbrev pub OnePackedDifference : Type 0
+OnePackedDifference =
+    (first second list : List ℕ) (r q : ℕ) (s t : List ℕ)
+    → packedList r s ≡ byDifference (differenceOf first second list) → packedList q t ≡ byDifference (differenceOf first second list) → (r ≡ q) × (s ≡ t)
 
 -- the promises of slave: reset, enable, turn, exchange
 abbrev pub OneReset : Type 0
@@ -97,6 +105,12 @@ OneReplay =
     → replayed r s m ≡ replayOf sheet state memory trace → replayed q t n ≡ replayOf sheet state memory trace
     → (r ≡ q) × (s ≡ t) × (m ≡ n)
 
+-- difference::whole::difference
+abbrev pub OneDifference : Type 0
+OneDifference =
+    (first second list : List ℕ) (r q : Answer) (s t : List ℕ)
+    → listed r s ≡ differenceOf first second list → listed q t ≡ differenceOf first second list → (r ≡ q) × (s ≡ t)
+
 -- all of them, and the law that serves any other
 pub record OneAnswers : Type 1 where
   pub of-every-promise : OneAnswer
@@ -107,6 +121,7 @@ pub record OneAnswers : Type 1 where
   pub t24-turn : OnePackedTurn
   pub t24-exchange : OnePackedExchange
   pub t24-replay : OnePackedReplay
+  pub t24-difference : OnePackedDifference
   pub slave-reset : OneReset
   pub slave-enable : OneEnable
   pub slave-turn : OneTurn
@@ -114,3 +129,4 @@ pub record OneAnswers : Type 1 where
   pub slave-perform : OnePerform
   pub replay-step : OneStep
   pub replay-replay : OneReplay
+  pub difference-difference : OneDifference
