@@ -24,7 +24,7 @@ check_archive() {
         *) fail "the archive exports the foreign name $name ($type)" ;;
         esac
     done <"$work/defined"
-    for name in t24_sheet t24_lengths t24_reset t24_enable t24_exchange t24_replay t24_turn t24_version; do
+    for name in t24_sheet t24_lengths t24_reset t24_enable t24_exchange t24_replay t24_turn t24_version t24_difference; do
         grep -q "^$name T" "$work/defined" || fail "the archive lacks $name"
     done
 

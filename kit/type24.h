@@ -30,6 +30,8 @@
  *   type24_answers.h   what a call answers: its number, its place, in words
  *   type24_reply.h     what a reply tells: its alarm, a lost cycle, identity
  *   type24_watchdog.h  the counts that are sent in step
+ *   type24_difference.h what changed between two sheets: its call, t24_difference,
+ *                      and its list
  * type24_words.h makes detailed words and comes where a host includes it.
  * RULES is the page RULES.md, with its section; those from 3 to 9 are pages of
  * their own beside it, in rules.
@@ -41,6 +43,7 @@
 #include <stdint.h>
 
 #include "type24_answers.h"
+#include "type24_difference.h"
 #include "type24_octets.h"
 #include "type24_records.h"
 #include "type24_release.h"

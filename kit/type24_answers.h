@@ -25,6 +25,15 @@
 #define T24_SHEET_ORDER 15  /* records out of order, or regions overlap */
 #define T24_SHEET_EXCESS 16 /* too many records, or too much memory */
 #define T24_SHEET_SPAN 17   /* parameter not wholly in regions */
+#define T24_SECOND 10       /* t24_difference adds it for its second sheet: */
+#define T24_SECOND_CUT 21   /* as T24_SHEET_CUT */
+#define T24_SECOND_KIND 22  /* as T24_SHEET_KIND */
+#define T24_SECOND_PLACE 23 /* as T24_SHEET_PLACE */
+#define T24_SECOND_RANGE 24 /* as T24_SHEET_RANGE */
+#define T24_SECOND_ORDER 25 /* as T24_SHEET_ORDER */
+#define T24_SECOND_EXCESS 26 /* as T24_SHEET_EXCESS */
+#define T24_SECOND_SPAN 27  /* as T24_SHEET_SPAN */
+#define T24_LIST_LONG 28    /* list of differences longer than its buffer */
 #define T24_TRACE_KIND 31   /* trace: unknown record kind */
 #define T24_TRACE_L 32      /* trace: a kind whose L is not the sheet's */
 #define T24_TRACE_CUT 33    /* trace: record cut short */
@@ -37,8 +46,8 @@ static inline uint32_t t24_number(uint64_t answer)
     return answer & 0xFFFFFFFFu;
 }
 
-/* The place in an answer: for 11 to 17, 31 to 34, after a replay, and after an
- * exchange whose command has alarm 9 or 10; else 0. */
+/* The place in an answer: for 11 to 17, 21 to 28, 31 to 34, after a replay or a
+ * difference, and after an exchange whose command has alarm 9 or 10; else 0. */
 static inline uint32_t t24_place(uint64_t answer)
 {
     const uint64_t place = answer >> 32;
@@ -68,6 +77,15 @@ static inline size_t t24_memory(uint64_t lengths)
     return t24_place(lengths);
 }
 
+/* The fault of a sheet, T24_SHEET_CUT to T24_SHEET_SPAN, that a number tells of
+ * either sheet of t24_difference or of another call's; 0 if it tells none. */
+static inline uint32_t t24_sheet_fault(uint32_t number)
+{
+    if (number >= T24_SECOND_CUT && number <= T24_SECOND_SPAN)
+        return number - T24_SECOND;
+    return number >= T24_SHEET_CUT && number <= T24_SHEET_SPAN ? number : 0;
+}
+
 /* A call's number in words. */
 static inline const char *t24_words(uint32_t number)
 {
@@ -86,6 +104,16 @@ static inline const char *t24_words(uint32_t number)
     case T24_SHEET_ORDER: return "sheet: records out of order or overlapping";
     case T24_SHEET_EXCESS: return "sheet: too many records or too much memory";
     case T24_SHEET_SPAN: return "sheet: parameter not wholly in regions";
+    case T24_SECOND_CUT: return "second sheet: ends too early or is too long";
+    case T24_SECOND_KIND: return "second sheet: unknown record kind";
+    case T24_SECOND_PLACE: return "second sheet: record kind out of place";
+    case T24_SECOND_RANGE: return "second sheet: field out of range";
+    case T24_SECOND_ORDER:
+        return "second sheet: records out of order or overlapping";
+    case T24_SECOND_EXCESS:
+        return "second sheet: too many records or too much memory";
+    case T24_SECOND_SPAN: return "second sheet: parameter not wholly in regions";
+    case T24_LIST_LONG: return "list of differences is longer than its buffer";
     case T24_TRACE_KIND: return "trace: unknown record kind";
     case T24_TRACE_L: return "trace: a record of another L";
     case T24_TRACE_CUT: return "trace: record cut short";

@@ -6,7 +6,7 @@
  * archive of another may lend buffers of other lengths than the archive asks for,
  * as one of release 1 does: every call then answers a number and writes nothing.
  * Or it reads the wrong octet of a reply, as one of release 2 does of the short
- * type's.  t24_release_fits() says so, before the first call (RULES 8.15 to 8.20).
+ * type's.  t24_release_fits() says so, before the first call (RULES 8.15 to 8.21).
  * The release of the drive rules that a sheet asks for is another number:
  * t24_rule_release() in type24_records.h tells that.
  */
@@ -15,7 +15,7 @@
 
 #include <stdint.h>
 
-#define T24_VERSION "3.1.0" /* T24_PROVED_WITH stands in type24_version.h */
+#define T24_VERSION "3.2.0" /* T24_PROVED_WITH stands in type24_version.h */
 #define T24_RELEASE 3       /* the first number of it */
 
 #ifdef __cplusplus

@@ -231,44 +231,64 @@ static inline int t24_say_fault(struct t24_text *text,
     }
 }
 
+/* What the walk finds at the place of a fault, or that it is not there. */
+static inline void t24_put_fault(struct t24_text *text, const uint8_t *sheet,
+                                 size_t sheet_len, uint32_t fault, size_t place)
+{
+    struct t24_walk walk;
+
+    if (sheet_len > T24_SHEET_MAX && fault == T24_SHEET_CUT && place == 0) {
+        t24_put(text, "the sheet is over 2048 octets");
+        return;
+    }
+    walk = t24_walk_to(sheet, sheet_len, place);
+    if (sheet_len > T24_SHEET_MAX || walk.at != place
+        || !t24_say_fault(text, &walk, fault)) {
+        t24_put(text, t24_words(fault));
+        t24_put(text, "; but not in these octets");
+    }
+}
+
+/* What t24_sheet_words says, put behind what the text has. */
+static inline void t24_put_verdict(struct t24_text *text, const uint8_t *sheet,
+                                   size_t sheet_len, uint64_t answer)
+{
+    const uint32_t number = t24_number(answer), place = t24_place(answer);
+    const uint32_t fault = t24_sheet_fault(number);
+    struct t24_walk walk;
+
+    if (number == T24_DONE) {
+        walk = t24_walk_to(sheet, sheet_len, sheet_len);
+        t24_put_contents(text, &walk);
+        return;
+    }
+    t24_put(text, fault != 0 && fault != number ? "second sheet: " : "");
+    t24_put_decimal(text, number);
+    if (fault == 0) {
+        t24_put(text, ": ");
+        t24_put(text, t24_words(number));
+        return;
+    }
+    t24_put(text, " at octet ");
+    t24_put_decimal(text, place);
+    t24_put(text, ": ");
+    t24_put_fault(text, sheet, sheet_len, fault, place);
+}
+
 /*
  * An answer of t24_sheet, or of another call with this sheet, in words: for 11
  * to 17 "14 at octet 14: region 2, rights 09: only bits 0 to 2 may be set", for
- * 0 "valid, L 16, 8 octets of memory, 2 regions, 1 parameter, 0 ID items", for
- * others the number and t24_words().
+ * 21 to 27, where it is t24_difference's second one, the same behind "second
+ * sheet: ", for 0 "valid, L 16, 8 octets of memory, 2 regions, 1 parameter, 0 ID
+ * items", for others the number and t24_words().
  */
 static inline size_t t24_sheet_words(const uint8_t *sheet, size_t sheet_len,
                                      uint64_t answer, char *text,
                                      size_t text_len)
 {
-    const uint32_t number = t24_number(answer), place = t24_place(answer);
     struct t24_text made = t24_text_in(text, text_len);
-    struct t24_walk walk;
 
-    if (number == T24_DONE) {
-        walk = t24_walk_to(sheet, sheet_len, sheet_len);
-        t24_put_contents(&made, &walk);
-        return t24_text_end(&made);
-    }
-    t24_put_decimal(&made, number);
-    if (number < T24_SHEET_CUT || number > T24_SHEET_SPAN) {
-        t24_put(&made, ": ");
-        t24_put(&made, t24_words(number));
-        return t24_text_end(&made);
-    }
-    t24_put(&made, " at octet ");
-    t24_put_decimal(&made, place);
-    t24_put(&made, ": ");
-    if (sheet_len > T24_SHEET_MAX && answer == T24_SHEET_CUT) {
-        t24_put(&made, "the sheet is over 2048 octets");
-        return t24_text_end(&made);
-    }
-    walk = t24_walk_to(sheet, sheet_len, place);
-    if (sheet_len > T24_SHEET_MAX || walk.at != place
-        || !t24_say_fault(&made, &walk, number)) {
-        t24_put(&made, t24_words(number));
-        t24_put(&made, "; but not in these octets");
-    }
+    t24_put_verdict(&made, sheet, sheet_len, answer);
     return t24_text_end(&made);
 }
 

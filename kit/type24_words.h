@@ -2,7 +2,7 @@
  * type24_words.h - what a fitter wants to read, in words: why a call refused,
  * the fault of a sheet or a trace, a command, which octet of it was wrong, why a
  * cycle was lost and whether that is tolerated, a status, a state record, an
- * octet of a reply.
+ * octet of a reply, what changed between two sheets.
  *
  * A host includes this header where it wants them; type24.h comes with it, and
  * nothing of the C library is needed.  Functions with text and text_len write
@@ -27,11 +27,14 @@
  *   t24_trace_words        an answer of t24_replay     here
  *   t24_refusal_words      an answer of any other call here
  *   t24_turn_words         an answer of t24_turn       here
+ *   t24_entry_words        what changed in a sheet     type24_difference_words.h
+ *   t24_difference_words   an answer of t24_difference type24_difference_words.h
  */
 #ifndef TYPE24_WORDS_H
 #define TYPE24_WORDS_H
 
 #include "type24.h"
+#include "type24_difference_words.h"
 #include "type24_field_words.h"
 #include "type24_octet_words.h"
 #include "type24_pdu_words.h"
@@ -198,9 +201,10 @@ static inline void t24_put_misfit(struct t24_text *text, uint32_t number,
  * An answer of any call but t24_turn in words, by what the call was lent: for 1
  * "1: state record of wrong length or not valid: octet 2, L, is not the
  * sheet's", for 2 "2: memory length is not the sum of the regions: 7, not 8",
- * for 11 to 17 as t24_sheet_words, for 31 to 35 as t24_trace_words, for others
- * the number and t24_words().  What the call was not lent has length 0, and may
- * be NULL.
+ * for 11 to 17 as t24_sheet_words, for 21 to 27 too, with the second sheet as
+ * sheet, for 28 with the length of the list, for 31 to 35 as t24_trace_words, for
+ * others the number and t24_words().  What the call was not lent has length 0, and
+ * may be NULL.  t24_difference_words takes both sheets.
  */
 static inline size_t t24_refusal_words(const uint8_t *sheet, size_t sheet_len,
                                        const uint8_t *state, size_t state_len,
@@ -212,12 +216,15 @@ static inline size_t t24_refusal_words(const uint8_t *sheet, size_t sheet_len,
     const uint32_t number = t24_number(answer);
     struct t24_text made = t24_text_in(text, text_len);
 
-    if (number == T24_DONE
-        || (number >= T24_SHEET_CUT && number <= T24_SHEET_SPAN))
+    if (number == T24_DONE || t24_sheet_fault(number) != 0)
         return t24_sheet_words(sheet, sheet_len, answer, text, text_len);
     if (number >= T24_TRACE_KIND)
         return t24_trace_words(trace, trace_len, t24_l(lengths), answer, text,
                                text_len);
+    if (number == T24_LIST_LONG) {
+        t24_put_list_long(&made, answer);
+        return t24_text_end(&made);
+    }
     t24_put_decimal(&made, number);
     t24_put(&made, ": ");
     t24_put(&made, t24_words(number));
