@@ -4,7 +4,8 @@
 #include <string.h>
 
 static const unsigned numbers[] = {
-    0, 1, 2, 3, 4, 5, 6, 11, 12, 13, 14, 15, 16, 17, 31, 32, 33, 34, 35
+    0, 1, 2, 3, 4, 5, 6, 11, 12, 13, 14, 15, 16, 17, 21, 22, 23, 24, 25, 26, 27,
+    28, 31, 32, 33, 34, 35
 };
 
 /* Literal octets stand here on purpose: a slip in the header must show. */
@@ -76,7 +77,19 @@ static const unsigned pair[][2] = {
     { T24_SHORT_REPLY_AT_STATUS, 2 }, { T24_SHORT_REPLY_AT_RWDT, 15 },
     { T24_SHORT_PRM_AT_DATA, 7 }, { T24_SHORT_DATA_MAX, 8 },
     { T24_SHORT_ID_AT_DATA, 7 }, { T24_SHORT_ALM_AT_COMMAND, 5 },
-    { T24_SHORT_ALM_AT_COMMUNICATION, 6 }
+    { T24_SHORT_ALM_AT_COMMUNICATION, 6 }, { T24_SECOND, 10 },
+    { T24_SECOND_CUT, 21 }, { T24_SECOND_KIND, 22 }, { T24_SECOND_PLACE, 23 },
+    { T24_SECOND_RANGE, 24 }, { T24_SECOND_ORDER, 25 },
+    { T24_SECOND_EXCESS, 26 }, { T24_SECOND_SPAN, 27 }, { T24_LIST_LONG, 28 },
+    { T24_DIFFERENCE_MAX, 2379 }, { T24_ENTRY_GONE, 0x40 },
+    { T24_ENTRY_NEW, 0x50 }, { T24_ENTRY_CHANGED, 0x60 }, { T24_ENTRY_MAX, 36 },
+    { T24_REGION_KEY_LEN, 4 }, { T24_PARAMETER_KEY_LEN, 2 },
+    { T24_ITEM_KEY_LEN, 1 }, { T24_CHANGED_L, 1 }, { T24_CHANGED_VERSION, 2 },
+    { T24_CHANGED_PROFILE, 4 }, { T24_CHANGED_REGION_LENGTH, 2 },
+    { T24_CHANGED_RIGHTS, 4 }, { T24_CHANGED_ADDRESS, 2 },
+    { T24_CHANGED_SIZE, 4 }, { T24_CHANGED_ITEM_LENGTH, 2 },
+    { T24_CHANGED_ITEM_OCTETS, 4 }, { T24_CHANGED_TOLERANCE, 1 },
+    { T24_CHANGED_RULE_RELEASE, 1 }
 };
 
 void header_constants(void)
@@ -94,7 +107,7 @@ void header_release(void)
 {
     check(t24_version() == 3, "release of the archive");
     check(t24_release_fits(), "archive and header");
-    check(strcmp(T24_VERSION, "3.1.0") == 0, "version and release");
+    check(strcmp(T24_VERSION, "3.2.0") == 0, "version and release");
 }
 
 static void answers_taken_apart(void)
@@ -128,6 +141,10 @@ void header_words(void)
     size_t i, j;
 
     answers_taken_apart();
+    for (i = 0; i < 64; i++)
+        check(t24_sheet_fault((uint32_t)i)
+              == (i >= 11 && i <= 17 ? i : i >= 21 && i <= 27 ? i - 10 : 0),
+              "the fault of a sheet");
     for (i = 0; i < sizeof numbers / sizeof numbers[0]; i++) {
         label("number", (long)numbers[i]);
         check(strcmp(t24_words(numbers[i]), t24_words(7)) != 0, "no words");

@@ -15,12 +15,13 @@ static struct {
 } lent[ROLES];
 
 static long calls, failures;
-static long answers[ASK_TURN + 1][2][NUMBERS]; /* by call and type */
+static long answers[ASK_DIFFERENCE + 1][2][NUMBERS]; /* by call and type */
 static const char *group_name = "", *label_text = "";
 static long label_number;
 
 static const char *const role_name[ROLES] = {
-    "sheet", "state", "memory", "command", "reply", "trace", "old record"
+    "sheet", "state", "memory", "command", "reply", "trace", "old record",
+    "second sheet", "list"
 };
 
 void lend_open(void)
@@ -102,6 +103,10 @@ static uint64_t ask(enum which which)
         return t24_turn(lent[SHEET].at, lent[SHEET].len,
                         lent[OLD].at, lent[OLD].len,
                         lent[STATE].at, lent[STATE].len);
+    case ASK_DIFFERENCE:
+        return t24_difference(lent[SHEET].at, lent[SHEET].len,
+                              lent[SECOND].at, lent[SECOND].len,
+                              lent[LIST].at, lent[LIST].len);
     default:
         return t24_exchange(lent[SHEET].at, lent[SHEET].len,
                             lent[STATE].at, lent[STATE].len,

@@ -8,10 +8,12 @@
 
 #define NUMBERS 36               /* numbers are below this */
 
-enum role { SHEET, STATE, MEMORY, COMMAND, REPLY, TRACE, OLD, ROLES };
+enum role {
+    SHEET, STATE, MEMORY, COMMAND, REPLY, TRACE, OLD, SECOND, LIST, ROLES
+};
 enum which {
     ASK_SHEET, ASK_LENGTHS, ASK_RESET, ASK_ENABLE, ASK_EXCHANGE, ASK_REPLAY,
-    ASK_TURN
+    ASK_TURN, ASK_DIFFERENCE
 };
 
 /* Gets the places ready; to be called once before anything else. */

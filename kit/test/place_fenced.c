@@ -117,4 +117,5 @@ void place_lock(int locked)
     protect(COMMAND, protection);
     protect(TRACE, protection);
     protect(OLD, protection);
+    protect(SECOND, protection);
 }

@@ -24,6 +24,12 @@ void sheet_refused(const char *name, const struct built *sheet,
     expect(ASK_EXCHANGE, answer);
     expect(ASK_REPLAY, answer);
     expect(ASK_TURN, answer);
+    give(SECOND, sheet_p, sizeof sheet_p);
+    give_noise(LIST, 16);
+    expect(ASK_DIFFERENCE, answer);
+    give(SECOND, sheet->octets, sheet->len);
+    give(SHEET, sheet_p, sizeof sheet_p);
+    expect(ASK_DIFFERENCE, answer + T24_SECOND);
 }
 
 static void start(struct built *sheet)

@@ -3,7 +3,7 @@
  * the variable SPOIL says, so that it shows whether the test notices; between
  * compare and the library for peer/valgrind and peer/sanitized.
  * Linked with --wrap for each of the six calls; t24_turn and t24_version have
- * a file of their own.
+ * a file of their own, and so has t24_difference.
  */
 #include "spoil.h"
 #include "spoil_lost.h"

@@ -93,19 +93,21 @@ test_with_checkers() {
     "$work/boundary-address" || fail "boundary with the address sanitizer"
     say "both can fail"
     first="$CHECKED --exit-on-first-error=yes"
-    $blocks "$work/blocks"/*.o spoil.c spoil_turn.c "$work/at-hand.a" $(wraps) -o "$work/spoiled-blocks"
+    $blocks "$work/blocks"/*.o spoil.c spoil_turn.c spoil_difference.c "$work/at-hand.a" $(wraps) -o "$work/spoiled-blocks"
     must_fail "an octet written behind a reply" "Invalid write" env SPOIL=9 $first "$work/spoiled-blocks"
     must_fail "an octet written before a reply" "Invalid write" env SPOIL=10 $first "$work/spoiled-blocks"
     must_fail "an octet read behind a command" "Invalid read" env SPOIL=12 $first "$work/spoiled-blocks"
     must_fail "an octet read behind a trace" "Invalid read" env SPOIL=19 $first "$work/spoiled-blocks"
     must_fail "an octet read behind an old record" "Invalid read" env SPOIL=54 $first "$work/spoiled-blocks"
-    $address "$work/address"/*.o spoil.c spoil_turn.c "$work/at-hand.a" $(wraps) -o "$work/spoiled-address"
+    must_fail "an octet written behind a list" "Invalid write" env SPOIL=90 $first "$work/spoiled-blocks"
+    must_fail "an octet read behind a second sheet" "Invalid read" env SPOIL=92 $first "$work/spoiled-blocks"
+    $address "$work/address"/*.o spoil.c spoil_turn.c spoil_difference.c "$work/at-hand.a" $(wraps) -o "$work/spoiled-address"
     must_fail "an octet written behind a reply, by the sanitizer" "heap-buffer-overflow" env SPOIL=9 "$work/spoiled-address"
 }
 
-# wraps: the flags that put spoil.c and spoil_turn.c between the test and the library.
+# wraps: the flags that put spoil.c, spoil_turn.c and spoil_difference.c between the test and the library.
 wraps() {
-    for name in sheet lengths reset enable exchange replay turn version; do
+    for name in sheet lengths reset enable exchange replay turn version difference; do
         printf ' -Wl,--wrap=t24_%s' "$name"
     done
 }
@@ -117,11 +119,11 @@ test_that_tests_fail() {
     $HAND -DWRONG_EXPECTATION -c boundary.c -o "$work/wrong-objects/boundary.o"
     $HAND -static "$work/wrong-objects"/*.o $HAND_LIB -o "$work/wrong"
     must_fail "a wrong expectation" FAILED hand "$work/wrong" stop
-    $HAND -static "$work/objects"/*.o spoil.c spoil_turn.c $HAND_LIB $(wraps) -o "$work/spoiled"
+    $HAND -static "$work/objects"/*.o spoil.c spoil_turn.c spoil_difference.c $HAND_LIB $(wraps) -o "$work/spoiled"
     export SPOIL=0
     hand "$work/spoiled" stop >"$work/out" || fail "unspoiled, yet fails"
     number=0
-    while [ "$number" -lt 79 ]; do
+    while [ "$number" -lt 103 ]; do
         number=$((number + 1))
         SPOIL=$number
         must_fail "spoil $number" FAILED hand "$work/spoiled" stop

@@ -12,26 +12,33 @@ size_t near_length(size_t right, int variant)
     }
 }
 
-uint64_t give_sheet(unsigned l, int variant)
+uint64_t build_variant(struct built *sheet, unsigned l, int variant)
 {
     static const uint8_t place[] = { 0, 32, 32, 33, 0, 14, 4, 24 };
-    struct built sheet;
 
-    build_p(&sheet, l);
+    build_p(sheet, l);
     switch (variant) {
-    case 1: sheet.octets[32] = T24_RECORD_ID; break;
-    case 2: sheet.octets[32] = 8; break;
-    case 3: add_octet(&sheet, 0); break;
-    case 4: sheet.octets[1] = 7; break;
-    case 5: sheet.octets[15] = 0x03; break;
-    case 6: sheet.octets[11] = 1; break;
-    case 7: sheet.octets[31] = 7; break;
+    case 1: sheet->octets[32] = T24_RECORD_ID; break;
+    case 2: sheet->octets[32] = 8; break;
+    case 3: add_octet(sheet, 0); break;
+    case 4: sheet->octets[1] = 7; break;
+    case 5: sheet->octets[15] = 0x03; break;
+    case 6: sheet->octets[11] = 1; break;
+    case 7: sheet->octets[31] = 7; break;
     default: break;
     }
-    give(SHEET, sheet.octets, sheet.len);
     if (variant == 0)
         return T24_DONE;
     return 10u + (unsigned)variant + ((uint64_t)place[variant] << 32);
+}
+
+uint64_t give_sheet(unsigned l, int variant)
+{
+    struct built sheet;
+    const uint64_t fault = build_variant(&sheet, l, variant);
+
+    give(SHEET, sheet.octets, sheet.len);
+    return fault;
 }
 
 void give_state(unsigned l, unsigned link, int variant)

@@ -3,6 +3,7 @@
 #define VARIANTS_H
 
 #include "lend.h"
+#include "sheets.h"
 
 enum { LENGTH_VARIANTS = 4, SHEET_VARIANTS = 8, STATE_VARIANTS = 9 };
 
@@ -10,6 +11,7 @@ enum { LENGTH_VARIANTS = 4, SHEET_VARIANTS = 8, STATE_VARIANTS = 9 };
 size_t near_length(size_t right, int variant);
 
 /* One sheet for each fault 11 to 17, index 0 is good; tells the fault. */
+uint64_t build_variant(struct built *sheet, unsigned l, int variant);
 uint64_t give_sheet(unsigned l, int variant);
 
 /* Index 0 is good; then wrong lengths, wrong contents of right length, and last
