@@ -20,8 +20,4 @@ void give_two(const struct built *first, const struct built *second,
 void expect_list(const struct built *first, const struct built *second,
                  const struct built *list);
 
-/* The two largest sheets that have no region, parameter or ID item in common, and
- * the longest list that there is. */
-void build_apart(struct built *first, struct built *second, struct built *list);
-
 #endif

@@ -49,4 +49,8 @@ void add_rules(struct built *sheet, unsigned number);
 /* Every record there may be: the most a call ever has to read. */
 void build_largest(struct built *sheet, unsigned l);
 
+/* Two of the largest sheets, of both types, that have no region, parameter or ID
+ * item in common, and what changed between them: the longest list that there is. */
+void build_apart(struct built *first, struct built *second, struct built *list);
+
 #endif

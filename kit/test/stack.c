@@ -2,10 +2,12 @@
  * takes there: on the smallest sheet, on the largest, on the largest of the short
  * type, and on the largest with a last region that gives no right; every code in
  * every link, accepted, refused, and in a cycle that is lost, tolerated or not;
- * refused calls; old records; traces that agree, that differ and that have a fault.
+ * refused calls; old records; traces that agree, that differ and that have a fault;
+ * the longest list of differences, an empty one, and one that has no room.
  * Fails where a call takes what the header promises, or more. */
 #include "painted.h"
 #include "sheets.h"
+#include "stack_commands.h"
 
 #include <stdio.h>
 #include <stdlib.h>
@@ -16,18 +18,21 @@
 #endif
 #define RECORDS 256u
 
-enum { SHEET, LENGTHS, RESET, TURN, VERSION, ENABLE, EXCHANGE, REPLAY, CALLS };
-static const char *const names[CALLS] = { "sheet",  "lengths", "reset",
-                                          "turn",   "version", "enable",
-                                          "exchange", "replay" };
+enum {
+    SHEET, LENGTHS, RESET, TURN, VERSION, ENABLE, EXCHANGE, REPLAY, DIFFERENCE,
+    CALLS
+};
+static const char *const names[CALLS] = { "sheet",    "lengths", "reset",
+                                          "turn",     "version", "enable",
+                                          "exchange", "replay",  "difference" };
 
-static struct built sheet;
+static struct built sheet, second, list;
 static size_t l, sheet_len, state_len, old_len, memory_len;
 static uint8_t state[T24_STATE_LEN + 1], memory[T24_MEMORY_MAX + 1];
 static uint8_t command[T24_L_MAX], reply[T24_L_MAX];
 static uint8_t start[T24_STATE_LEN], old[T24_OLD_STATE_LEN];
 static uint8_t trace[RECORDS * (1 + 2 * T24_L_MAX)];
-static size_t trace_len;
+static size_t trace_len, list_len;
 static uint64_t answer;
 static size_t empty, most[CALLS];
 static unsigned accepted[32], refused[32], tolerated, left, differed, faulty;
@@ -66,10 +71,17 @@ static void ask_replay(void)
                         memory_len, trace, trace_len);
 }
 
+static void ask_difference(void)
+{
+    answer = t24_difference(sheet.octets, sheet_len, second.octets, second.len,
+                            list.octets, list_len);
+}
+
 static void (*const calls[CALLS])(void) = { ask_sheet,    ask_lengths,
                                             ask_reset,    ask_turn,
                                             ask_version,  ask_enable,
-                                            ask_exchange, ask_replay };
+                                            ask_exchange, ask_replay,
+                                            ask_difference };
 
 static void measure(int which)
 {
@@ -128,41 +140,6 @@ static void measure_refused_calls(void)
     }
 }
 
-/* As much data as a command of this L can carry, and a parameter of the largest
- * sheet has. */
-static size_t most_data(void)
-{
-    return l - T24_PRM_AT_DATA;
-}
-
-/* A command that the largest sheet accepts, or with every field wrong. */
-static void make_command(unsigned code, int wrong)
-{
-    memset(command, wrong ? 0xFF : 0, sizeof command);
-    command[0] = (uint8_t)code;
-    if (wrong)
-        return;
-    if (code == T24_PRM_RD || code == T24_PRM_WR) {
-        command[T24_PRM_AT_NUMBER] = 63; /* the last one, in two regions */
-        command[T24_PRM_AT_SIZE] = (uint8_t)most_data();
-    }
-    if (code == T24_ID_RD) {
-        command[T24_ID_AT_CODE] = 31;
-        command[T24_ID_AT_SIZE] = (uint8_t)(most_data() < 32 ? most_data() : 32);
-    }
-    if (code == T24_CONNECT) {
-        command[T24_CONNECT_AT_VERSION] = 0x30;
-        command[T24_CONNECT_AT_COM_TIME] = 1;
-    }
-    if (code == T24_MEM_RD || code == T24_MEM_WR) {
-        command[T24_MEM_AT_ELEMENT] = T24_ELEMENT_4;
-        command[T24_MEM_AT_COUNT] = 13;
-        command[T24_MEM_AT_ADDRESS] = 0xF0; /* crosses into the last region */
-        command[T24_MEM_AT_ADDRESS + 1] = 0x07;
-        command[T24_MEM_AT_ADDRESS + 2] = 0x01;
-    }
-}
-
 /* The start of the exchanges: a link, with MN known in the last one. */
 static void enter(unsigned link)
 {
@@ -177,7 +154,7 @@ static void enter(unsigned link)
 
 static void measure_exchange(unsigned code, int wrong, int lost)
 {
-    make_command(code, wrong);
+    make_command(command, l, code, wrong);
     t24_put_wdt(sheet.octets, command, lost ? 5 : 0); /* 0 follows 15 */
     memcpy(state, start, sizeof start);
     measure(EXCHANGE);
@@ -261,6 +238,28 @@ static int all_codes(void)
         && faulty > 0;
 }
 
+/* Between the two largest sheets that have nothing in common, in a buffer that is
+ * just long enough and in one that is not, between equal ones, and with a second
+ * sheet that ends with a wrong record. */
+static void measure_difference(void)
+{
+    size_t longest;
+
+    build_apart(&sheet, &second, &list);
+    sheet_len = sheet.len;
+    longest = list.len;
+    for (list_len = longest - 1; list_len <= longest; list_len++)
+        measure(DIFFERENCE);
+    must(answer == (uint64_t)longest << 32, "the longest list");
+    second.octets[second.len - 1] = 9;
+    measure(DIFFERENCE);
+    must(t24_number(answer) == T24_SECOND_KIND, "a faulty second sheet");
+    second = sheet;
+    list_len = 0;
+    measure(DIFFERENCE);
+    must(answer == T24_DONE, "an empty list");
+}
+
 int main(void)
 {
     int which, good = 1;
@@ -281,6 +280,7 @@ int main(void)
     measure_sheet();
     sheet.octets[4 + 10 * 31 + 9] = 0; /* the last region's rights */
     measure_sheet();
+    measure_difference();
     must(all_codes(), "every code, accepted and refused");
     printf("stack, octets at most:");
     for (which = SHEET; which < CALLS; which++) {

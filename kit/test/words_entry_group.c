@@ -166,9 +166,6 @@ void words_entries_of_others(void)
                              text, sizeof text), others[i].words);
     }
     label("a place far behind the list", 0);
-    same(t24_entry_words(NULL, 0, NULL, 0, (size_t)-1, text, sizeof text),
-         sizeof(size_t) == 8 ? "no entry at octet 18446744073709551615: the "
-         "list ends before it"
-                             : "no entry at octet 4294967295: the list ends "
-                             "before it");
+    same(t24_entry_words(NULL, 0, NULL, 0, 0xFFFFFFFFu, text, sizeof text),
+         "no entry at octet 4294967295: the list ends before it");
 }
