@@ -1,6 +1,6 @@
 /*
  * type24_difference.h - what changed between two sheets: the call, the octets of
- * its list, and the list entry by entry (RULES 8.22 to 8.28).  Comes with
+ * its list, and the list entry by entry (RULES 8.22 to 8.29).  Comes with
  * type24.h.
  *
  * A list has one entry for each record that differs, in the order link, regions

@@ -1,6 +1,6 @@
 /*
  * type24_difference_words.h - what changed between two sheets in words (RULES
- * 8.22 to 8.28).  Comes with type24_words.h.
+ * 8.27).  Comes with type24_words.h.
  *
  * The list is the library's; the first sheet is read again only to say what a
  * changed field was.  Nothing outside list and sheet is read, whatever octets

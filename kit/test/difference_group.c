@@ -1,4 +1,4 @@
-/* t24_difference: each entry that there is, in its order (RULES 8.22 to 8.28). */
+/* t24_difference: each entry that there is, in its order (RULES 8.22 to 8.29). */
 #include "difference.h"
 #include "groups.h"
 

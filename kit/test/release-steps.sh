@@ -91,6 +91,18 @@ test_old_archive() {
     must_fail "an archive of release 1 under a host of this one" "t24_version" $HAND "$dist/example/oven.c" "$work/six.o" -o "$work/oven-six"
 }
 
+# That of version 3.1 has no t24_difference: a host that asks for it does not link with it, and one that does not ask does.
+test_archive_before() {
+    for name in sheet lengths reset enable exchange replay turn version; do
+        printf 'int t24_%s(void);\nint t24_%s(void) { return 0; }\n' "$name" "$name"
+    done >"$work/eight.c"
+    $HAND_CC -c "$work/eight.c" -o "$work/eight.o"
+    must_fail "an archive of version 3.1 under a host that asks what changed" "t24_difference" \
+        $HAND "$dist/example/newsheet.c" "$work/eight.o" -o "$work/newsheet-eight"
+    $HAND "$dist/example/oven.c" "$work/eight.o" -o "$work/oven-eight" || fail "an archive of version 3.1 under another host"
+    echo "an archive of version 3.1 under another host: links"
+}
+
 # A host of release 2 would read a short reply's alarm in its status, where it never is; so it is told before its first call.
 test_host_2() {
     misfit="the archive is of release 3, this header of release 2: a host needs both out of one kit"
@@ -119,4 +131,5 @@ test_releases() {
     say "headers and archive of different releases"
     test_release_check
     test_old_archive
+    test_archive_before
 }

@@ -8,10 +8,11 @@ test_contents() {
     say "contents"
     for file in include/type24.h include/type24_octets.h include/type24_short.h include/type24_answers.h include/type24_reply.h \
         include/type24_watchdog.h include/type24_records.h include/type24_release.h include/type24_words.h include/type24_version.h \
+        include/type24_difference.h include/type24_difference_words.h \
         x86_64/lib/libtype24.a x86_64/lib/pkgconfig/type24.pc \
         lib/libtype24.a lib/pkgconfig/type24.pc doc/LINKING.md doc/PROCESSORS.md \
         doc/INTEGRATOR.md doc/FITTER.md doc/ENGINEER.md doc/RULES.md doc/rules/calls.md \
-        example/oven.c example/example.sheet example/short.sheet example/rules.sheet example/explain.c bin/t24-explain \
+        example/oven.c example/newsheet.c example/example.sheet example/short.sheet example/rules.sheet example/explain.c bin/t24-explain \
         bin/bench bin/replayer bin/t24-hex VERSION; do
         [ -f "$dist/$file" ] || fail "the kit lacks $file"
     done
@@ -276,6 +277,7 @@ test_linking_page() {
 }
 
 . "$kit/test/rules-steps.sh"
+. "$kit/test/difference-steps.sh"
 . "$kit/test/oven-steps.sh"
 . "$kit/test/release-steps.sh"
 . "$kit/test/processor-steps.sh"
