@@ -6,39 +6,49 @@
  * of a tolerated one; one of every number but 35, which takes a trace of 2^30 octets, one of t24_turn done and refused,
  * and one of t24_version.
  */
+#include "covered.h"
 #include "lent.h"
 
-enum { NAMES = 8, SPOILT = 0xA5, SHORT_KIND = 0x05, TOLERATED_BIT = 0x02, LINK_AT = 1 };
+enum { NAMES = 16, SPOILT = 0xA5 };
 
-static struct octets given, state_was, memory_was, old_was;
+static struct octets given, state_was, memory_was, list_was, old_was;
 static struct { char name[16]; struct octets octets; } named[NAMES];
 static struct octets *last;       /* what a line that begins with a blank goes on with */
-static int told, owes_state, owes_memory, owes_place; /* answers in this block; what no line has told of the last */
+static int told, owes_place;      /* answers in this block; whether no line has told of the last one's place */
 static uint32_t owed_place;       /* of the last reply's answer */
 static size_t room;               /* of the reply */
 static char call[32];
-static int numbers[64], turns[2], versions, answers, examples;
-static struct { const char *name; int codes[256], alarms[16], lost, tolerated; } types[2] = {
-    {.name = "the enhanced type"}, {.name = "the short type"}};
+static int answers, examples;
+
+/* What a call may write, and whether no line has told it of the last one. */
+static struct after { const char *key; struct octets *now, *was; const char *changed, *other; int owed; } afters[] = {
+    {"state after", &state, &state_was, "the state has changed, and no line above says so", "another state", 0},
+    {"memory after", &memory, &memory_was, "the memory has changed, and no line above says so", "another memory", 0},
+    {"list after", &list, &list_was, "the list has changed, and no line above says so", "another list", 0}};
+enum { AFTERS = sizeof afters / sizeof *afters };
+static struct after *told_of;     /* whose octets are in given, as far as lines were read */
+static int told_at;
 
 /* What no line has spoken of must be as before the call. */
 static void settle(void)
 {
-    if (owes_state && !same(&state, &state_was))
-        fail("the state has changed, and no line above says so");
-    if (owes_memory && !same(&memory, &memory_was))
-        fail("the memory has changed, and no line above says so");
+    for (int i = 0; i < AFTERS; i++) {
+        if (afters[i].owed && !same(afters[i].now, afters[i].was))
+            fail(afters[i].changed);
+        afters[i].owed = 0;
+    }
     if (owes_place && owed_place != 0)
         fail("the answer has a place, and no line above says so");
-    owes_state = owes_memory = owes_place = 0;
+    owes_place = 0;
 }
 
 static uint64_t make_call(void)
 {
     settle();
-    state_was = state;
-    memory_was = memory;
-    owes_state = owes_memory = 1;
+    for (int i = 0; i < AFTERS; i++) {
+        *afters[i].was = *afters[i].now;
+        afters[i].owed = 1;
+    }
     told++, answers++;
     memset(reply.at, SPOILT, sizeof reply.at);
     old_was = old;
@@ -66,12 +76,7 @@ static void expect_answer(const char *text)
         for (size_t i = 0; i < sizeof reply.at; i++)
             if (reply.at[i] != SPOILT)
                 fail("a refused call has written to the reply");
-    if (strcmp(call, "t24_lengths") && strcmp(call, "t24_version") && number < 64)
-        numbers[number] = 1;
-    if (!strcmp(call, "t24_turn"))
-        turns[number != T24_DONE] = 1;
-    if (!strcmp(call, "t24_version"))
-        versions++;
+    count_number(call, number);
 }
 
 static void expect_octets(const char *what, const struct octets *have)
@@ -83,22 +88,6 @@ static void expect_octets(const char *what, const struct octets *have)
         fprintf(stderr, " %02X", have->at[i]);
     fprintf(stderr, "\n");
     fail(what);
-}
-
-/* What the reply is an example of, by its own octets and not by the kit's helpers: a slip of theirs must not hide one
- * of a page. */
-static void count_reply(void)
-{
-    const int is_short = sheet.at[0] == SHORT_KIND;
-    const unsigned alarm = is_short ? reply.at[1] : reply.at[3] % 16u;
-
-    types[is_short].alarms[alarm % 16] = 1;
-    if (reply.at[2] & TOLERATED_BIT)
-        types[is_short].tolerated = 1;
-    else if (state_was.at[LINK_AT] == T24_LINK_SYNC && state.at[LINK_AT] == T24_LINK_ASYNC)
-        types[is_short].lost = 1;
-    else if (alarm == T24_ALARM_NONE)
-        types[is_short].codes[reply.at[0]] = 1;
 }
 
 static void expect_reply(void)
@@ -113,8 +102,36 @@ static void expect_reply(void)
     owed_place = t24_place(answer);
     owes_place = 1;
     expect_octets("another reply", &reply);
-    numbers[T24_DONE] = 1;
-    count_reply();
+    count_number(call, T24_DONE);
+    count_reply(&state_was);
+}
+
+/* The octets of lines that tell what a call has left, when the last of them is read. */
+static void expect_after(void)
+{
+    const int here = line_number;
+
+    if (!told_of)
+        return;
+    line_number = told_at;
+    expect_octets(told_of->other, told_of->now);
+    line_number = here;
+    told_of = NULL;
+}
+
+/* Begins such lines; tells 0 if it is not one of them, or nothing is to be told. */
+static int take_after(const char *key, const char *text)
+{
+    for (int i = 0; i < AFTERS; i++)
+        if (!strcmp(key, afters[i].key) && afters[i].owed) {
+            told_of = &afters[i];
+            told_of->owed = 0;
+            told_at = line_number;
+            last = &given;
+            read_octets(text, &given);
+            return 1;
+        }
+    return 0;
 }
 
 /* The place of the reply above; where no line tells it, it is 0. */
@@ -129,19 +146,21 @@ static void expect_place(const char *text)
     }
 }
 
-static void use_sheet(const char *text)
+static void use_sheet(const char *text, struct octets *into)
 {
     for (int i = 0; i < NAMES; i++)
         if (named[i].name[0] && !strcmp(named[i].name, text)) {
-            sheet = named[i].octets;
+            *into = named[i].octets;
             return;
         }
-    read_octets(text, &sheet);
+    read_octets(text, into);
 }
 
 static void name_sheet(const char *name, const char *text)
 {
-    for (int i = 0; i < NAMES; i++)
+    for (int i = 0; i < NAMES; i++) {
+        if (!strcmp(named[i].name, name))
+            fail("the name is another sheet's");
         if (!named[i].name[0] && strlen(name) < sizeof named[i].name) {
             strcpy(named[i].name, name);
             last = &named[i].octets;
@@ -149,6 +168,7 @@ static void name_sheet(const char *name, const char *text)
             told++; /* a block may give names alone */
             return;
         }
+    }
     fail("no room for the name");
 }
 
@@ -156,7 +176,8 @@ static void name_sheet(const char *name, const char *text)
 static void take(const char *key, const char *text)
 {
     static const struct { const char *key; struct octets *octets; } inputs[] = {
-        {"sheet", &sheet}, {"state", &state}, {"memory", &memory}, {"command", &command}, {"trace", &trace}, {"old", &old}};
+        {"sheet", &sheet}, {"state", &state}, {"memory", &memory}, {"command", &command}, {"trace", &trace}, {"old", &old},
+        {"second", &second}, {"list", &list}};
 
     last = NULL;
     for (size_t i = 0; i < sizeof inputs / sizeof *inputs; i++)
@@ -164,8 +185,8 @@ static void take(const char *key, const char *text)
             settle();
             last = inputs[i].octets;
             last->len = 0;
-            if (last == &sheet)
-                use_sheet(text);
+            if (last == &sheet || last == &second)
+                use_sheet(text, last);
             else
                 read_octets(text, last);
             return;
@@ -181,19 +202,11 @@ static void take(const char *key, const char *text)
         expect_answer(text);
     } else if (!strcmp(key, "place")) {
         expect_place(text);
-    } else {
+    } else if (!strcmp(key, "reply")) {
         read_octets(text, &given);
-        if (!strcmp(key, "reply")) {
-            expect_reply();
-        } else if (!strcmp(key, "state after") && owes_state) {
-            expect_octets("another state", &state);
-            owes_state = 0;
-        } else if (!strcmp(key, "memory after") && owes_memory) {
-            expect_octets("another memory", &memory);
-            owes_memory = 0;
-        } else {
-            fail("unknown line");
-        }
+        expect_reply();
+    } else if (!take_after(key, text)) {
+        fail("unknown line");
     }
 }
 
@@ -211,13 +224,14 @@ static void take_line(char *line)
         if (colon == NULL)
             fail("no KEY:");
         *colon++ = 0;
+        expect_after();
         take(line, colon + strspn(colon, " "));
     }
 }
 
 static void begin(void)
 {
-    sheet.len = state.len = memory.len = command.len = trace.len = old.len = 0;
+    sheet.len = state.len = memory.len = command.len = trace.len = old.len = second.len = list.len = 0;
     call[0] = 0, told = 0, room = ROOM, last = NULL;
     examples++;
 }
@@ -236,6 +250,7 @@ static void read_page(void)
             begin();
         } else if (inside && !strncmp(line, "```", 3)) {
             inside = 0;
+            expect_after();
             settle();
             if (!told)
                 fail("an example without an answer");
@@ -248,25 +263,6 @@ static void read_page(void)
     fclose(file);
 }
 
-/* The short type has all commands but the last two. */
-static void ask_type(int is_short)
-{
-    static const uint8_t all_codes[] = {T24_NOP, T24_PRM_RD, T24_PRM_WR, T24_ID_RD, T24_ALM_RD, T24_ALM_CLR,
-        T24_SYNC_SET, T24_CONNECT, T24_DISCONNECT, T24_MEM_RD, T24_MEM_WR};
-    static const uint8_t all_alarms[] = {T24_ALARM_NONE, T24_ALARM_CODE, T24_ALARM_DATA, T24_ALARM_RIGHTS,
-        T24_ALARM_LINK};
-
-    page = types[is_short].name;
-    for (size_t i = 0; i < sizeof all_codes - (is_short ? 2 : 0); i++)
-        if (!types[is_short].codes[all_codes[i]])
-            fail("a command without an example that is accepted");
-    for (size_t i = 0; i < sizeof all_alarms; i++)
-        if (!types[is_short].alarms[all_alarms[i]])
-            fail("an alarm without an example");
-    if (!types[is_short].lost || !types[is_short].tolerated)
-        fail("no example of a lost cycle, or of a tolerated one");
-}
-
 int main(int argc, char **argv)
 {
     for (int i = 1; i < argc; i++) {
@@ -276,12 +272,7 @@ int main(int argc, char **argv)
     line_number = 0;
     ask_type(0);
     ask_type(1);
-    page = "all pages";
-    for (int n = 0; n < 35; n++)
-        if (!numbers[n] && (n <= 6 || (n >= 11 && n <= 17) || n >= 31))
-            fail("a number without an example");
-    if (!turns[0] || !turns[1] || !versions)
-        fail("no example of t24_turn, refused or not, or of t24_version");
+    ask_numbers();
     printf("rules: %d answers in %d examples are the library's\n", answers, examples);
     return 0;
 }

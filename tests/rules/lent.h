@@ -16,7 +16,7 @@ struct octets {
     uint8_t at[ROOM];
 };
 
-static struct octets sheet, state, memory, command, trace, old, reply;
+static struct octets sheet, state, memory, command, trace, old, reply, second, list;
 static const char *page;
 static int line_number;
 
@@ -69,6 +69,8 @@ static uint64_t answer_of(const char *call)
         return t24_replay(sheet.at, sheet.len, state.at, state.len, memory.at, memory.len, trace.at, trace.len);
     if (!strcmp(call, "t24_turn"))
         return t24_turn(sheet.at, sheet.len, old.at, old.len, state.at, state.len);
+    if (!strcmp(call, "t24_difference"))
+        return t24_difference(sheet.at, sheet.len, second.at, second.len, list.at, list.len);
     if (!strcmp(call, "t24_version"))
         return t24_version();
     fail("no such call");
