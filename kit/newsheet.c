@@ -3,7 +3,8 @@
  * Says in words what changes, and takes the new sheet only if the slave can go on
  * under it as it stands: the state record has the sheet's L, the memory its
  * regions, and neither may move below a running slave.  Anything else waits until
- * the band stands, and begins with t24_reset.
+ * the band stands: then the memory is laid out anew, and t24_reset makes the state
+ * record anew.
  * Ends with 0 if the new sheet is taken or equal, with 1 if it has to wait, and with
  * 2 if a sheet is refused or cannot be read.
  */
@@ -167,7 +168,7 @@ static int show(const struct host *host, const uint8_t *list, size_t len)
     for (place = 0; entry.len != 0; entry = t24_entry_at(list, len, place)) {
         t24_entry_words(host->sheet.octets, host->sheet.len, list, len, place,
                         words, sizeof words);
-        printf("%s%s\n", words, goes_on(&entry) ? "" : " (needs a reset)");
+        printf("%s%s\n", words, goes_on(&entry) ? "" : " (waits)");
         waits += !goes_on(&entry);
         place += entry.len;
     }

@@ -66,20 +66,37 @@ test_newsheet() {
         "region 00001000: rights read, write out of step -> read" "parameter 0: new, 1 octet at 00001000" "parameter 7: gone" \
         "ID item 2: new, 4 octets" "tolerance record: new, lost cycles 1" "rule release record: new, rule release 2" \
         "taken" "NOP     00120400000000000000000000000000"
-    given 1 p.bin moved.bin "CONNECT 0E010400300201000000000000000000" "region 00001000: length 4 -> 8 (needs a reset)" \
-        "region 00001004: gone (needs a reset)" "waits: not while the band runs"
-    given 1 p.bin longer.bin "CONNECT 0E010400300201000000000000000000" "link record: L 16 -> 32 (needs a reset)" \
+    given 1 p.bin moved.bin "CONNECT 0E010400300201000000000000000000" "region 00001000: length 4 -> 8 (waits)" \
+        "region 00001004: gone (waits)" "waits: not while the band runs"
+    given 1 p.bin longer.bin "CONNECT 0E010400300201000000000000000000" "link record: L 16 -> 32 (waits)" \
         "waits: not while the band runs"
-    given 1 moved.bin p.bin "CONNECT 0E010400300201000000000000000000" "region 00001000: length 8 -> 4 (needs a reset)" \
-        "region 00001004: new, 4 octets, rights write out of step, write in step (needs a reset)" "waits: not while the band runs"
+    given 1 moved.bin p.bin "CONNECT 0E010400300201000000000000000000" "region 00001000: length 8 -> 4 (waits)" \
+        "region 00001004: new, 4 octets, rights write out of step, write in step (waits)" "waits: not while the band runs"
     test_newsheet_short
     test_newsheet_refused
     test_newsheet_edits
+    test_page_loop
+}
+
+# The page's loop over a list, as a reader can type it off.
+test_page_loop() {
+    {
+        printf '#include "type24.h"\nstatic uint32_t gone;\nstatic void forget(uint32_t key)\n{\n    gone = key;\n}\nint main(void)\n{\n'
+        printf '    static const uint8_t list[] = { 0x42, 1, 0, 0, 0, 0x43, 7, 2, 0x44, 9 };\n    const size_t len = sizeof list;\n'
+        awk '/^    struct t24_entry entry;/ { on = 1 } on && !/^    / { exit } on' "$dist/doc/LINKING.md"
+        printf '    return gone == 519 && place == len ? 0 : 1;\n}\n'
+    } >"$work/loop.c"
+    grep -q t24_entry_at "$work/loop.c" || fail "no loop on the page"
+    $C "$work/loop.c" $LIB -o "$work/loop"
+    run "$work/loop" || fail "the page's loop"
+    $CPP "$work/loop.c" $LIB -o "$work/loop"
+    run "$work/loop" || fail "the page's loop in C++"
+    echo "the page's loop over a list: ok"
 }
 
 test_newsheet_short() {
-    given 1 p.bin s.bin "CONNECT 0E010400300201000000000000000000" "link record: gone (needs a reset)" \
-        "short link record: new, L 16, version 30 hex, profile 0 (needs a reset)" "waits: not while the band runs"
+    given 1 p.bin s.bin "CONNECT 0E010400300201000000000000000000" "link record: gone (waits)" \
+        "short link record: new, L 16, version 30 hex, profile 0 (waits)" "waits: not while the band runs"
     { head -c 32 "$work/s.bin" && octets 06 02 00; } >"$work/s-tolerant.bin"
     given 0 s.bin s-tolerant.bin "CONNECT 0E000400300201000000000000000001" "tolerance record: new, lost cycles 2" \
         "taken" "NOP     00000400000000000000000000000012"
