@@ -28,6 +28,11 @@ pub const TOO_MUCH: u32 = 16;
 /// Parameter span not wholly in regions.
 pub const SPAN: u32 = 17;
 
+/// A fault of the second of two sheets is told as the first one's, and this more.
+pub const OF_SECOND: u32 = 10;
+/// The list of differences is longer than the lent buffer.
+pub const LIST_LONG: u32 = 28;
+
 /// Trace record of unknown kind.
 pub const TRACE_KIND: u32 = 31;
 /// Trace record whose L is not the sheet's.
@@ -53,7 +58,7 @@ impl Answer {
     }
 }
 
-/// A reply that was built, or a trace that agrees, with what its place tells.
+/// A reply that was built, a trace that agrees, or a list that was written, with what its place tells.
 pub fn done_at(place: u32) -> Answer {
     Answer { number: 0, place }
 }
@@ -63,7 +68,7 @@ pub fn refuse(number: u32) -> Answer {
     Answer { number, place: 0 }
 }
 
-/// A refusal at a place of the sheet or of the trace, which are far below 4 GiB.
+/// A refusal at a place of the sheet or of the trace, or with a list's length; all are far below 4 GiB.
 pub fn refuse_at(number: u32, place: usize) -> Answer {
     Answer {
         number,

@@ -10,7 +10,7 @@ const TOLERANCE_RECORD: usize = 2;
 const RELEASE_RECORD: usize = 2;
 
 /// The kinds in the order in which a sheet has them, the end apart.
-#[derive(Clone, Copy, PartialEq, Eq, PartialOrd, Ord)]
+#[derive(Clone, Copy, Debug, PartialEq, Eq, PartialOrd, Ord)]
 pub enum Kind {
     /// Of the enhanced type or, request 7, of the short one.
     Link,
@@ -49,6 +49,28 @@ impl Kind {
             Kind::Tolerance => TOLERANCE_RECORD,
             Kind::Release => RELEASE_RECORD,
             Kind::End => 1,
+        }
+    }
+
+    /// The lengths of its body's fields, in their order (request 2).
+    pub fn fields(self) -> &'static [usize] {
+        match self {
+            Kind::Link => &[1, 1, 1],
+            Kind::Region => &[4, 4, 1],
+            Kind::Parameter => &[2, 4, 1],
+            Kind::Item => &[1, 1, 32],
+            Kind::Tolerance | Kind::Release => &[1],
+            Kind::End => &[],
+        }
+    }
+
+    /// The octets of the key that its body begins with: "start, number and code", the others have none.
+    pub fn key_length(self) -> usize {
+        match self {
+            Kind::Region => 4,
+            Kind::Parameter => 2,
+            Kind::Item => 1,
+            Kind::Link | Kind::Tolerance | Kind::Release | Kind::End => 0,
         }
     }
 

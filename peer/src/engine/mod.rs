@@ -1,18 +1,21 @@
 //! The slave on byte slices, as document 01 ("What we are to build") rules,
-//! with requests 1, 3, 5 to 9 and 13 of document 02.
+//! with requests 1 to 3, 5 to 9 and 13 of document 02.
 //!
 //! Each call answers number + 2^32 × place. A call with a number other than 0
 //! has written nothing, except a replay's difference (34), which has replayed
 //! the records before the differing one.
 
 pub mod answer;
+pub mod apply;
 pub mod code;
 pub mod command;
+pub mod difference;
 pub mod exchange;
 pub mod frame;
 pub mod kind;
 pub mod memory_mode;
 pub mod octets;
+pub mod record;
 pub mod region;
 pub mod replay;
 pub mod reserved;
@@ -20,7 +23,13 @@ pub mod sheet;
 pub mod state;
 
 #[cfg(test)]
+mod apply_tests;
+#[cfg(test)]
 mod bench_cases;
+#[cfg(test)]
+mod difference_order_tests;
+#[cfg(test)]
+mod difference_tests;
 #[cfg(test)]
 mod identity_tests;
 #[cfg(test)]
@@ -113,6 +122,15 @@ pub fn exchange(
 /// as before that record.
 pub fn replay(sheet: &[u8], state: &mut [u8], memory: &mut [u8], trace: &[u8]) -> u64 {
     match replay::replay(sheet, state, memory, trace) {
+        Ok(answer) | Err(answer) => answer.packed(),
+    }
+}
+
+/// Lists what the second sheet has otherwise than the first (request 2 of document 02).
+///
+/// The list is written: 0 with its length. It has no room: 28 with the length that it needs.
+pub fn difference(first: &[u8], second: &[u8], list: &mut [u8]) -> u64 {
+    match difference::difference(first, second, list) {
         Ok(answer) | Err(answer) => answer.packed(),
     }
 }

@@ -4,6 +4,7 @@ use super::answer::{self, refuse_at, Answer};
 use super::frame::Frame;
 use super::kind::{Kind, ITEM_RECORD, LINK_RECORD, PARAMETER_RECORD, REGION_RECORD};
 use super::octets::{number_16, number_32};
+use super::record::Records;
 use super::region::{find_span, Region, RIGHTS};
 
 const SHEET_LIMIT: usize = 2048;
@@ -207,6 +208,11 @@ impl<'a> Sheet<'a> {
     /// What the release record says, if the sheet has one.
     pub fn release_record(&self) -> Option<u8> {
         self.release
+    }
+
+    /// All records in sheet order, the end apart.
+    pub fn records(&self) -> Records<'a> {
+        Records::of(self.octets)
     }
 
     /// The regions in sheet order.
