@@ -8,4 +8,4 @@ pub mod engine;
 #[path = "../src/export.rs"]
 pub mod export;
 
-export!(crate::engine: peer_sheet peer_lengths peer_reset peer_enable peer_turn peer_exchange peer_replay peer_version);
+export!(crate::engine: peer_sheet peer_lengths peer_reset peer_enable peer_turn peer_exchange peer_replay peer_difference peer_version);

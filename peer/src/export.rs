@@ -27,10 +27,10 @@ pub unsafe fn lent_mut<'a>(octets: *mut u8, length: usize) -> &'a mut [u8] {
     }
 }
 
-/// Exports `$engine`'s functions: sheet, lengths, reset, enable, turn, exchange, replay, version.
+/// Exports `$engine`'s functions: sheet, lengths, reset, enable, turn, exchange, replay, difference, version.
 macro_rules! export {
     ($engine:path: $sheet:ident $lengths:ident $reset:ident $enable:ident $turn:ident $exchange:ident $replay:ident
-     $version:ident) => {
+     $difference:ident $version:ident) => {
         use $crate::export::{lent, lent_mut};
         use $engine as exported;
 
@@ -118,6 +118,22 @@ macro_rules! export {
                 lent_mut(state, state_length),
                 lent_mut(memory, memory_length),
                 lent(trace, trace_length),
+            )
+        }
+
+        #[no_mangle]
+        pub unsafe extern "C" fn $difference(
+            first: *const u8,
+            first_length: usize,
+            second: *const u8,
+            second_length: usize,
+            list: *mut u8,
+            list_length: usize,
+        ) -> u64 {
+            exported::difference(
+                lent(first, first_length),
+                lent(second, second_length),
+                lent_mut(list, list_length),
             )
         }
 

@@ -40,6 +40,14 @@ extern "C" {
         trace: *const u8,
         trace_len: usize,
     ) -> u64;
+    fn t24_difference(
+        first: *const u8,
+        first_len: usize,
+        second: *const u8,
+        second_len: usize,
+        list: *mut u8,
+        list_len: usize,
+    ) -> u64;
     fn t24_version() -> u64;
 }
 
@@ -52,6 +60,7 @@ pub const T24: Engine = Engine {
     turn,
     exchange,
     replay,
+    difference,
     version,
 };
 
@@ -118,6 +127,19 @@ fn replay(sheet: &[u8], state: &mut [u8], memory: &mut [u8], trace: &[u8]) -> u6
             memory.len(),
             trace.as_ptr(),
             trace.len(),
+        )
+    }
+}
+
+fn difference(first: &[u8], second: &[u8], list: &mut [u8]) -> u64 {
+    unsafe {
+        t24_difference(
+            first.as_ptr(),
+            first.len(),
+            second.as_ptr(),
+            second.len(),
+            list.as_mut_ptr(),
+            list.len(),
         )
     }
 }

@@ -10,4 +10,4 @@ pub mod engine;
 #[path = "../src/export.rs"]
 pub mod export;
 
-export!(crate::engine: t24_sheet t24_lengths t24_reset t24_enable t24_turn t24_exchange t24_replay t24_version);
+export!(crate::engine: t24_sheet t24_lengths t24_reset t24_enable t24_turn t24_exchange t24_replay t24_difference t24_version);

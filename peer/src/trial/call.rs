@@ -10,11 +10,15 @@ pub enum Call {
     Turn,
     Exchange,
     Replay,
+    Difference,
 }
 
 /// What is lent to a call. State and memory stay for the next call.
+///
+/// Differences are lent two sheets and a list and nothing else, and the other calls neither of the last two.
 #[derive(Clone, Debug, Default)]
 pub struct Inputs {
+    /// The first one, where there are two.
     pub sheet: Vec<u8>,
     pub state: Vec<u8>,
     /// The record that is turned.
@@ -23,4 +27,6 @@ pub struct Inputs {
     pub command: Vec<u8>,
     pub reply: Vec<u8>,
     pub trace: Vec<u8>,
+    pub second: Vec<u8>,
+    pub list: Vec<u8>,
 }

@@ -10,6 +10,9 @@ pub type Replay = fn(&[u8], &mut [u8], &mut [u8], &[u8]) -> u64;
 /// Sheet, old record and new record to an answer.
 pub type Turn = fn(&[u8], &[u8], &mut [u8]) -> u64;
 
+/// Two sheets and a list to an answer.
+pub type Difference = fn(&[u8], &[u8], &mut [u8]) -> u64;
+
 /// The functions of an engine.
 #[derive(Clone, Copy)]
 pub struct Engine {
@@ -20,6 +23,7 @@ pub struct Engine {
     pub turn: Turn,
     pub exchange: Exchange,
     pub replay: Replay,
+    pub difference: Difference,
     pub version: fn() -> u64,
 }
 
@@ -32,5 +36,6 @@ pub const PEER: Engine = Engine {
     turn: engine::turn,
     exchange: engine::exchange,
     replay: engine::replay,
+    difference: engine::difference,
     version: engine::version,
 };

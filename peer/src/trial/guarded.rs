@@ -83,9 +83,9 @@ impl Guarded {
         &mut self.octets[self.front..self.front + self.length]
     }
 
-    /// Whether no octet around the content has changed.
+    /// Whether no octet around the content has changed; before the first load there is none.
     pub fn intact(&self) -> bool {
-        if !self.guards {
+        if !self.guards || self.octets.is_empty() {
             return true;
         }
         self.octets[..self.front] == *self.front_guard()

@@ -3,6 +3,7 @@
 use super::call::{Call, Inputs};
 use super::engines::{Engine, PEER};
 use super::guarded::Guarded;
+use super::lists::wrong_list;
 use super::progress::Progress;
 use super::report::Difference;
 use super::side::Side;
@@ -64,15 +65,35 @@ impl Rig {
         if let Some(what) = self.disagreement() {
             return Err(self.difference(what));
         }
-        let state = self.ours.state.lend().to_vec();
-        let before = std::mem::replace(&mut self.inputs.state, state);
-        self.inputs.memory.copy_from_slice(self.ours.memory.lend());
-        let (answer, reply) = (self.ours.answer.unwrap_or(0), self.ours.reply.lend());
-        self.tally.add(call, answer, &before, &self.inputs, reply);
+        let answer = self.ours.answer.unwrap_or(0);
+        if call == Call::Difference {
+            self.take_list(answer)?;
+        } else {
+            self.carry_on(call, answer);
+        }
         if let Some(progress) = &mut self.progress {
             progress.count(&self.origin);
         }
         Ok(answer)
+    }
+
+    /// State and memory go on to the next call.
+    fn carry_on(&mut self, call: Call, answer: u64) {
+        let state = self.ours.state.lend().to_vec();
+        let before = std::mem::replace(&mut self.inputs.state, state);
+        self.inputs.memory.copy_from_slice(self.ours.memory.lend());
+        let reply = self.ours.reply.lend();
+        self.tally.add(call, answer, &before, &self.inputs, reply);
+    }
+
+    /// The other engine's list is asked for the rules too, whatever both engines agree on.
+    fn take_list(&mut self, answer: u64) -> Result<(), Box<Difference>> {
+        let list = self.theirs.list.lend();
+        if let Some(what) = wrong_list(&self.inputs, answer, list) {
+            return Err(self.difference(what));
+        }
+        self.tally.add_difference(answer, &self.inputs, list);
+        Ok(())
     }
 
     /// As `call`, but the answer has to be this one as well.
@@ -90,6 +111,11 @@ impl Rig {
         self.ours.reply.lend()
     }
 
+    /// The list of that length which the other engine left in the call that was made last.
+    pub fn list(&self, length: usize) -> &[u8] {
+        &self.theirs.list.lend()[..length]
+    }
+
     /// The type of the sheet that is lent.
     pub fn wire(&self) -> &'static Wire {
         Wire::of_sheet(&self.inputs.sheet)
@@ -105,12 +131,12 @@ impl Rig {
         if ours.answer != theirs.answer {
             return Some("the answer");
         }
-        let names = ["the state", "the memory", "the reply"];
+        let names = ["the state", "the memory", "the reply", "the list"];
         let written = ours.written();
-        if let Some(at) = (0..3).find(|&at| written[at] != theirs.written()[at]) {
+        if let Some(at) = (0..4).find(|&at| written[at] != theirs.written()[at]) {
             return Some(names[at]);
         }
-        if !theirs.read_only_kept(&self.inputs) {
+        if !theirs.read_only_kept(self.calling, &self.inputs) {
             return Some("a buffer lent for reading");
         }
         if !theirs.guards_intact() {

@@ -16,6 +16,8 @@ pub struct Side {
     pub command: Guarded,
     pub reply: Guarded,
     pub trace: Guarded,
+    pub second: Guarded,
+    pub list: Guarded,
 }
 
 impl Side {
@@ -31,12 +33,17 @@ impl Side {
             reply: buffer(salt ^ 4),
             trace: buffer(salt ^ 5),
             old: buffer(salt ^ 6),
+            second: buffer(salt ^ 7),
+            list: buffer(salt ^ 8),
         }
     }
 
     /// Calls the engine; a long trace takes the place of the guarded one, and is not copied.
     pub fn run(&mut self, call: Call, inputs: &Inputs, long: Option<&[u8]>) {
         self.sheet.load(&inputs.sheet);
+        if call == Call::Difference {
+            return self.run_difference(inputs);
+        }
         self.state.load(&inputs.state);
         self.memory.load(&inputs.memory);
         self.command.load(&inputs.command);
@@ -58,12 +65,23 @@ impl Side {
                 let trace = long.unwrap_or(self.trace.lend());
                 (self.engine.replay)(sheet, state, memory, trace)
             }
+            // It went its own way above.
+            Call::Difference => return,
         });
     }
 
+    /// What else there is stays as the call before has left it.
+    fn run_difference(&mut self, inputs: &Inputs) {
+        self.second.load(&inputs.second);
+        self.list.load(&inputs.list);
+        let (first, second) = (self.sheet.lend(), self.second.lend());
+        self.answer = None;
+        self.answer = Some((self.engine.difference)(first, second, self.list.lend_mut()));
+    }
+
     /// What may be written, in one order for both sides.
-    pub fn written(&self) -> [&[u8]; 3] {
-        [self.state.lend(), self.memory.lend(), self.reply.lend()]
+    pub fn written(&self) -> [&[u8]; 4] {
+        [&self.state, &self.memory, &self.reply, &self.list].map(Guarded::lend)
     }
 
     /// Whether no octet outside a buffer has changed.
@@ -76,15 +94,21 @@ impl Side {
             &self.reply,
             &self.trace,
             &self.old,
+            &self.second,
+            &self.list,
         ];
         all.iter().all(|buffer| buffer.intact())
     }
 
     /// Whether what was lent for reading is as it was lent.
-    pub fn read_only_kept(&self, inputs: &Inputs) -> bool {
-        self.sheet.lend() == inputs.sheet.as_slice()
-            && self.command.lend() == inputs.command.as_slice()
-            && self.trace.lend() == inputs.trace.as_slice()
-            && self.old.lend() == inputs.old.as_slice()
+    pub fn read_only_kept(&self, call: Call, inputs: &Inputs) -> bool {
+        let kept = |buffer: &Guarded, lent: &Vec<u8>| buffer.lend() == lent.as_slice();
+        if call == Call::Difference {
+            return kept(&self.sheet, &inputs.sheet) && kept(&self.second, &inputs.second);
+        }
+        kept(&self.sheet, &inputs.sheet)
+            && kept(&self.command, &inputs.command)
+            && kept(&self.trace, &inputs.trace)
+            && kept(&self.old, &inputs.old)
     }
 }

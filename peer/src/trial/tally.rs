@@ -1,6 +1,7 @@
 //! Counts of what the calls have reached, so that coverage can be seen.
 
 use super::call::{Call, Inputs};
+use super::differences::Differences;
 use super::links::Links;
 use super::releases::Releases;
 use super::replies::{Cycle, Replies};
@@ -22,6 +23,7 @@ pub struct Tally {
     links: Links,
     releases: Releases,
     turned: Turned,
+    differences: Differences,
 }
 
 impl Default for Tally {
@@ -35,6 +37,7 @@ impl Default for Tally {
             links: Links::default(),
             releases: Releases::default(),
             turned: Turned::default(),
+            differences: Differences::default(),
         }
     }
 }
@@ -42,10 +45,7 @@ impl Default for Tally {
 impl Tally {
     /// Counts a call on which both engines agreed.
     pub fn add(&mut self, call: Call, answer: u64, before: &[u8], after: &Inputs, reply: &[u8]) {
-        *self.calls.entry(call).or_insert(0) += 1;
-        if call != Call::Lengths {
-            *self.numbers.entry((call, answer as u32)).or_insert(0) += 1;
-        }
+        self.count(call, answer);
         match call {
             Call::Exchange if answer as u32 == 0 => {
                 self.add_reply(answer >> 32, before, after, reply);
@@ -56,6 +56,19 @@ impl Tally {
                 self.releases.add(&after.sheet, answer);
             }
             _ => (),
+        }
+    }
+
+    /// Counts a list that both engines left alike.
+    pub fn add_difference(&mut self, answer: u64, inputs: &Inputs, list: &[u8]) {
+        self.count(Call::Difference, answer);
+        self.differences.add(answer, inputs, list);
+    }
+
+    fn count(&mut self, call: Call, answer: u64) {
+        *self.calls.entry(call).or_insert(0) += 1;
+        if call != Call::Lengths {
+            *self.numbers.entry((call, answer as u32)).or_insert(0) += 1;
         }
     }
 
@@ -100,6 +113,7 @@ impl Tally {
         gaps.extend(self.links.gaps());
         gaps.extend(self.releases.gaps());
         gaps.extend(self.turned.gaps());
+        gaps.extend(self.differences.gaps());
         gaps.extend(self.number_gaps());
         gaps
     }
@@ -114,6 +128,7 @@ impl Tally {
             Call::Turn,
             Call::Exchange,
             Call::Replay,
+            Call::Difference,
         ] {
             wanted.extend(sheet.map(|number| (call, number)));
         }
@@ -121,6 +136,7 @@ impl Tally {
         wanted.push((Call::Enable, 6));
         wanted.extend([1, 2, 3, 4, 5].map(|number| (Call::Exchange, number)));
         wanted.extend([1, 2, 5, 31, 32, 33, 34].map(|number| (Call::Replay, number)));
+        wanted.extend((21..=28).map(|number| (Call::Difference, number)));
         wanted
             .into_iter()
             .filter(|&(call, number)| self.numbered(call, number) == 0)
@@ -141,6 +157,7 @@ impl fmt::Display for Tally {
         }
         write!(formatter, "{}{}", self.short, self.links)?;
         write!(formatter, "{}{}", self.releases, self.turned)?;
+        write!(formatter, "{}", self.differences)?;
         for (&(call, number), count) in &self.numbers {
             writeln!(formatter, "{call:?} with number {number}: {count}")?;
         }
