@@ -104,6 +104,39 @@ pub fn largest(pdu_length: u8, spans: Spans) -> Plan {
     plan
 }
 
+/// The same keys with other fields, of a plan whose regions are longer than one octet and have all rights.
+pub fn changed_all(plan: &Plan) -> Plan {
+    let mut changed = plan.clone();
+    changed.profile ^= 1;
+    for region in &mut changed.regions {
+        region.rights = 3;
+    }
+    for parameter in &mut changed.parameters {
+        parameter.size -= 1;
+    }
+    for item in &mut changed.items {
+        item.octets[31] ^= 1;
+    }
+    changed.tolerance = plan.tolerance.map(|failures| failures ^ 1);
+    changed.release = plan.release.map(|release| 3 - release);
+    changed
+}
+
+/// Other keys, of the other type: no record of the one is in the other but for those without a key.
+pub fn moved_all(plan: &Plan) -> Plan {
+    let mut moved = changed_all(plan).in_short();
+    for region in &mut moved.regions {
+        region.start += 1;
+    }
+    for parameter in &mut moved.parameters {
+        parameter.number += 1000;
+    }
+    for item in &mut moved.items {
+        item.code += 1;
+    }
+    moved
+}
+
 #[cfg(test)]
 mod tests {
     use super::*;
@@ -121,5 +154,8 @@ mod tests {
             let octets = largest(64, spans).octets();
             assert_eq!((engine::sheet(&octets), octets.len()), (0, 1959));
         }
+        let full = largest(64, Spans::Last).in_release_2();
+        assert_eq!(engine::sheet(&changed_all(&full).octets()), 0);
+        assert_eq!(engine::sheet(&moved_all(&full).octets()), 0);
     }
 }
