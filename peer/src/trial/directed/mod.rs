@@ -37,7 +37,6 @@ pub fn run(rig: &mut Rig) -> Outcome {
     releases::run(rig)?;
     pair_faults::run(rig)?;
     pair_records::run(rig)?;
-    pair_lists::run(rig)?;
     buffers::run(rig)?;
     states::run(rig)?;
     turns::run(rig)?;
@@ -57,6 +56,8 @@ pub fn run(rig: &mut Rig) -> Outcome {
     reserved::run(rig)?;
     order::run(rig)?;
     places::run_in_release_2(rig)?;
+    pair_records::run_all_kinds(rig)?;
+    pair_lists::run(rig)?;
     sheets::run(rig)?;
     failing_traces::run(rig)?;
     traces::run(rig)?;

@@ -21,8 +21,6 @@ pub fn run(rig: &mut Rig) -> Outcome {
     for records in [regions(), parameters(), items()] {
         of_one_kind(rig, &records)?;
     }
-    rig.origin = "directed: records of all kinds in two sheets".to_string();
-    of_all_kinds(rig)?;
     rig.origin = "directed: keys of two sheets at their bounds".to_string();
     keys(rig)
 }
@@ -131,11 +129,12 @@ fn of_one_kind(rig: &mut Rig, records: &[Variants]) -> Outcome {
 }
 
 /// One record of each kind behind the link record, in all states.
-fn of_all_kinds(rig: &mut Rig) -> Outcome {
+pub fn run_all_kinds(rig: &mut Rig) -> Outcome {
+    rig.origin = "directed: records of all kinds in two sheets".to_string();
     let records = [
-        [3, 5].map(|rights| region_record(&region(0x20, 4, rights))),
-        [1, 2].map(|size| parameter_record(&parameter(9, 0, size))),
-        [&[1][..], &[2]].map(|octets| item_record(&item(6, octets))),
+        [3, 5].map(|rights| region_record(&region(0x20, rights.into(), rights))),
+        [1, 2].map(|size| parameter_record(&parameter(9, size.into(), size))),
+        [&[1][..], &[2, 2]].map(|octets| item_record(&item(6, octets))),
         [0, 3].map(tolerance_record),
         [1, 2].map(release_record),
     ];
