@@ -87,3 +87,9 @@ pub fn distinct_octets(length: usize) -> Vec<u8> {
         .map(|at| ((at as u32).wrapping_mul(0x9E37_79B1) >> 23) as u8)
         .collect()
 }
+
+/// The same without a zero, for a buffer of which octets have to stay.
+pub fn old_octets(length: usize) -> Vec<u8> {
+    let octets = distinct_octets(length).into_iter();
+    octets.map(|octet| octet | 0x80).collect()
+}

@@ -2,7 +2,7 @@
 //! room; and that no refused call writes.
 
 use super::tolerances::packed;
-use crate::trial::build::distinct_octets;
+use crate::trial::build::old_octets;
 use crate::trial::call::Call;
 use crate::trial::plan::{item, item_record, parameter, parameter_record, region, region_record};
 use crate::trial::plan::{release_record, tolerance_record, Plan};
@@ -61,7 +61,7 @@ fn expect(rig: &mut Rig, first: &[u8], second: &[u8], answer: u64) -> Outcome {
     rig.inputs.sheet = first.to_vec();
     rig.inputs.second = second.to_vec();
     for room in ROOMS {
-        rig.inputs.list = distinct_octets(room);
+        rig.inputs.list = old_octets(room);
         rig.expect(Call::Difference, answer)?;
     }
     Ok(())
@@ -85,7 +85,7 @@ fn cuts(rig: &mut Rig, whole: &[u8]) -> Outcome {
             for [first, second] in [[&whole[..length], other], [other, &whole[..length]]] {
                 rig.inputs.sheet = first.to_vec();
                 rig.inputs.second = second.to_vec();
-                rig.inputs.list = distinct_octets(40);
+                rig.inputs.list = old_octets(40);
                 rig.call(Call::Difference)?;
             }
         }

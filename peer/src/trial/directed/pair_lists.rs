@@ -2,7 +2,7 @@
 //! sheets can have, and every octet of a sheet changed.
 
 use super::tolerances::packed;
-use crate::trial::build::distinct_octets;
+use crate::trial::build::old_octets;
 use crate::trial::call::Call;
 use crate::trial::pairs::{list_in, needed};
 use crate::trial::plan::{item, parameter, region, Plan};
@@ -19,7 +19,7 @@ const ALL_MOVED: usize = 2379;
 pub fn run(rig: &mut Rig) -> Outcome {
     rig.origin = "directed: lists cut at every length".to_string();
     every_length(rig)?;
-    rig.origin = "directed: every octet of a second sheet with every value".to_string();
+    rig.origin = "directed: octets of two sheets changed and swapped".to_string();
     every_octet(rig, &released(32, Some(2), Some(1)))?;
     rig.origin = "directed: the largest pairs of sheets".to_string();
     largest_pairs(rig)?;
@@ -58,7 +58,7 @@ fn cut(rig: &mut Rig, first: &[u8], second: &[u8]) -> Outcome {
         } else {
             packed(0, length)
         };
-        rig.inputs.list = distinct_octets(room);
+        rig.inputs.list = old_octets(room);
         rig.expect(Call::Difference, answer)?;
     }
     Ok(())
@@ -73,20 +73,29 @@ fn every_length(rig: &mut Rig) -> Outcome {
     Ok(())
 }
 
-/// Whatever the octet makes of the sheet, as the second and as the first.
+/// Each octet with every value, and swapped with the next one.
 fn every_octet(rig: &mut Rig, plan: &Plan) -> Outcome {
     let sheet = plan.octets();
     for at in 0..sheet.len() {
         for octet in 0..=255 {
             let mut changed = sheet.clone();
             changed[at] = octet;
-            rig.inputs.sheet = sheet.clone();
-            rig.inputs.second = changed;
-            list_in(rig, distinct_octets(60))?;
-            std::mem::swap(&mut rig.inputs.sheet, &mut rig.inputs.second);
-            list_in(rig, distinct_octets(60))?;
+            beside_changed(rig, &sheet, changed)?;
         }
+        let mut swapped = sheet.clone();
+        swapped.swap(at, (at + 1) % sheet.len());
+        beside_changed(rig, &sheet, swapped)?;
     }
+    Ok(())
+}
+
+/// Whatever the change makes of the sheet, as the second and as the first.
+fn beside_changed(rig: &mut Rig, sheet: &[u8], changed: Vec<u8>) -> Outcome {
+    rig.inputs.sheet = sheet.to_vec();
+    rig.inputs.second = changed;
+    list_in(rig, old_octets(60))?;
+    std::mem::swap(&mut rig.inputs.sheet, &mut rig.inputs.second);
+    list_in(rig, old_octets(60))?;
     Ok(())
 }
 
@@ -94,7 +103,7 @@ fn expect_length(rig: &mut Rig, pair: [&Plan; 2], length: usize) -> Outcome {
     let [first, second] = pair.map(Plan::octets);
     rig.inputs.sheet = first.clone();
     rig.inputs.second = second.clone();
-    rig.inputs.list = distinct_octets(4096);
+    rig.inputs.list = old_octets(4096);
     rig.expect(Call::Difference, packed(0, length))?;
     cut(rig, &first, &second)
 }

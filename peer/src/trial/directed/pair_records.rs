@@ -1,7 +1,7 @@
 //! Request 2: records of two sheets side by side, in each way in which they can
 //! be gone, new, changed or the same, with keys at their bounds.
 
-use crate::trial::build::distinct_octets;
+use crate::trial::build::old_octets;
 use crate::trial::pairs::{list_in, needed};
 use crate::trial::plan::{item, item_record, parameter, parameter_record, region, region_record};
 use crate::trial::plan::{release_record, tolerance_record};
@@ -38,14 +38,14 @@ pub fn around(rig: &mut Rig, first: &[u8], second: &[u8]) -> Outcome {
     lend(rig, first, second);
     let length = needed(rig)?;
     for room in [length.saturating_sub(1), length, length + 3] {
-        list_in(rig, distinct_octets(room))?;
+        list_in(rig, old_octets(room))?;
     }
     Ok(())
 }
 
 fn with_room(rig: &mut Rig, first: &[u8], second: &[u8]) -> Outcome {
     lend(rig, first, second);
-    list_in(rig, distinct_octets(ROOM))?;
+    list_in(rig, old_octets(ROOM))?;
     Ok(())
 }
 
