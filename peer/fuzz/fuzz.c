@@ -9,6 +9,7 @@
 #endif
 #include "calls.h"
 #include "commands.h"
+#include "pairs.h"
 #include "rig.h"
 #include "sheets.h"
 #include "trace.h"
@@ -136,6 +137,9 @@ static void step(struct input *in, const struct parts *parts)
         end_trace();
         turn_step(in);
         break;
+    case 0xE6:
+        difference_step(in, parts);
+        break;
     default:
         exchange_step(in, parts, control);
     }
@@ -162,7 +166,8 @@ static void lend_all(struct input *in, struct parts *parts)
 int LLVMFuzzerInitialize(int *argc, char ***argv)
 {
     struct lent *all[] = {rig.sheet, rig.state, rig.memory, rig.command,
-                          rig.reply, rig.trace, rig.old};
+                          rig.reply, rig.trace, rig.old, rig.first,
+                          rig.second, rig.list};
 
     (void)argc;
     (void)argv;

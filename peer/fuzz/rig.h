@@ -22,6 +22,8 @@
                              uint8_t *, size_t);                               \
     uint64_t name##_replay(const uint8_t *, size_t, uint8_t *, size_t,         \
                            uint8_t *, size_t, const uint8_t *, size_t);        \
+    uint64_t name##_difference(const uint8_t *, size_t, const uint8_t *,       \
+                               size_t, uint8_t *, size_t);                     \
     uint64_t name##_version(void)
 
 ENGINE(t24);
@@ -33,6 +35,7 @@ enum { SIDES = 2 };
 static struct rig {
     struct lent sheet[SIDES], state[SIDES], memory[SIDES];
     struct lent command[SIDES], reply[SIDES], trace[SIDES], old[SIDES];
+    struct lent first[SIDES], second[SIDES], list[SIDES];
     int at_end; /* on which side of the buffers the untouchable pages are */
 } rig;
 
@@ -74,5 +77,8 @@ static void lend_both(struct lent *sides, const uint8_t *octets, size_t length)
 #define REPLY(side) rig.reply[side].octets, rig.reply[side].length
 #define TRACE(side) rig.trace[side].octets, rig.trace[side].length
 #define OLD(side) rig.old[side].octets, rig.old[side].length
+#define FIRST(side) rig.first[side].octets, rig.first[side].length
+#define SECOND(side) rig.second[side].octets, rig.second[side].length
+#define LIST(side) rig.list[side].octets, rig.list[side].length
 
 #endif
