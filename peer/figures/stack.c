@@ -9,7 +9,7 @@
 #include <string.h>
 
 #define L 64u
-#define CALLS 7
+#define CALLS 8
 #define RECORD (1u + 2u * L)
 #define OLD_LEN 10u /* a state record from before request 9 */
 
@@ -26,7 +26,12 @@ static const struct size sizes[] = {
 };
 #define SIZES (sizeof sizes / sizeof sizes[0])
 
-static struct built sheet;
+/* Not in every header that this is built with. */
+uint64_t t24_difference(const uint8_t *, size_t, const uint8_t *, size_t,
+                        uint8_t *, size_t);
+
+static struct built sheet, second;
+static uint8_t list[4096];
 static uint8_t state[T24_STATE_LEN], memory[T24_MEMORY_MAX];
 static const uint8_t old[OLD_LEN] = { 0x11, 1, L }; /* Disconnected */
 static uint8_t command[L], reply[L];
@@ -34,24 +39,27 @@ static uint8_t start[T24_STATE_LEN], trace[16 * RECORD];
 static size_t memory_len, trace_len;
 static uint64_t answer;
 
-static void build(const struct size *size)
+/* So many records; in a changed sheet each of them but the link has another
+ * field, and in a moved one its key is another too. */
+static void build(struct built *to, const struct size *size, unsigned changed,
+                  unsigned moved)
 {
+    const uint64_t start = 0x1000u + moved;
     unsigned i;
 
-    sheet.len = 0;
+    to->len = 0;
     memory_len = 2048u * size->regions;
-    add_link(&sheet, L);
+    add_link(to, L);
     for (i = 0; i < size->regions; i++)
-        add_region(&sheet, 0x1000u + 2048u * (uint64_t)i, 2048, 7);
+        add_region(to, start + 2048u * (uint64_t)i, 2048, 7 - changed);
     for (i = 0; i < size->parameters; i++)
-        add_parameter(&sheet, i, 0x1000u + memory_len - 56, size->size);
+        add_parameter(to, i + 100 * moved, start + memory_len - 56,
+                      size->size - changed);
     for (i = 0; i < size->items; i++)
-        add_item(&sheet, i, 32);
-    if (size->tolerances > 0) {
-        sheet.octets[sheet.len++] = 6;
-        sheet.octets[sheet.len++] = 3;
-    }
-    add_end(&sheet);
+        add_item(to, i + 100 * moved, 32 - changed);
+    if (size->tolerances > 0)
+        add_tolerance(to, 3 - changed);
+    add_end(to);
 }
 
 static void nothing(void) { answer = 0; }
@@ -93,6 +101,13 @@ static void ask_replay(void)
     answer = t24_replay(sheet.octets, sheet.len, start, sizeof start, memory,
                         memory_len, trace, trace_len)
              != (uint64_t)(trace_len / RECORD) << 32;
+}
+
+/* The number alone: the place is the list's length. */
+static void ask_difference(void)
+{
+    answer = (uint32_t)t24_difference(sheet.octets, sheet.len, second.octets,
+                                      second.len, list, sizeof list);
 }
 
 /* The exchange just made becomes the trace's next record. */
@@ -159,11 +174,25 @@ static size_t used_by_exchange(const struct size *size)
     return most;
 }
 
+/* The most that a pair takes: equal, all changed, all gone and new. */
+static size_t used_by_difference(const struct size *size)
+{
+    size_t used, most = 0;
+    unsigned way;
+
+    for (way = 0; way < 3; way++) {
+        build(&second, size, way > 0, way > 1);
+        used = used_by(ask_difference);
+        most = used > most ? used : most;
+    }
+    return most;
+}
+
 static void measure(const struct size *size, double *used)
 {
     size_t empty;
 
-    build(size);
+    build(&sheet, size, 0, 0);
     empty = used_by(nothing);
     used[0] = (double)(used_by(ask_sheet) - empty);
     used[1] = (double)(used_by(ask_lengths) - empty);
@@ -172,6 +201,7 @@ static void measure(const struct size *size, double *used)
     used[4] = (double)(used_by(ask_turn) - empty);
     used[5] = (double)(used_by_exchange(size) - empty);
     used[6] = (double)(used_by(ask_replay) - empty);
+    used[7] = (double)(used_by_difference(size) - empty);
 }
 
 /* Least squares: octets for each record, and those for none. */
@@ -197,8 +227,8 @@ int main(void)
     size_t i;
     int call;
 
-    puts("| records | t24_sheet | t24_lengths | t24_reset | t24_enable | t24_turn | t24_exchange | t24_replay |");
-    puts("|---|---:|---:|---:|---:|---:|---:|---:|");
+    puts("| records | t24_sheet | t24_lengths | t24_reset | t24_enable | t24_turn | t24_exchange | t24_replay | t24_difference |");
+    puts("|---|---:|---:|---:|---:|---:|---:|---:|---:|");
     for (i = 0; i < SIZES; i++) {
         records[i] = 2 + sizes[i].regions + sizes[i].parameters + sizes[i].items
                      + sizes[i].tolerances;
@@ -211,7 +241,7 @@ int main(void)
     printf("| a line fitted |");
     for (call = 0; call < CALLS; call++) {
         fit(records, used, call, &slope, &base);
-        printf(" %.0f + %.1f each |", base, slope);
+        printf(" %.0f + %.1f each |", base, slope < 0.05 && slope > -0.05 ? 0 : slope);
     }
     puts("");
     return 0;

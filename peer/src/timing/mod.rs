@@ -1,5 +1,6 @@
 //! Times of two engines on the same inputs.
 
+pub mod differing;
 pub mod replaying;
 pub mod scene;
 pub mod search;

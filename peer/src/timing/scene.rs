@@ -1,5 +1,6 @@
-//! What is timed: reading a sheet, or one exchange from a fixed state.
+//! What is timed: reading a sheet, one exchange from a fixed state, or what changed between two sheets.
 
+use super::differing::difference_scenes;
 use crate::engine::memory_mode;
 use crate::engine::sheet::Parameter;
 use crate::trial::build;
@@ -21,6 +22,8 @@ pub struct Scene {
     pub memory: Vec<u8>,
     /// State and command of an exchange; nothing if only the sheet is read.
     pub exchange: Option<(Vec<u8>, Vec<u8>)>,
+    /// The second sheet of a difference, which has no exchange.
+    pub second: Option<Vec<u8>>,
 }
 
 impl Scene {
@@ -95,6 +98,7 @@ pub fn reading(named: &NamedPlan) -> Scene {
         sheet,
         memory: Vec::new(),
         exchange: None,
+        second: None,
     }
 }
 
@@ -112,6 +116,7 @@ pub fn exchanging(named: &NamedPlan, link: u8, what: &str, command: Vec<u8>) -> 
         sheet: named.plan.octets(),
         memory: build::distinct_octets(named.plan.memory_length()),
         exchange: Some((state, command)),
+        second: None,
     }
 }
 
@@ -195,7 +200,8 @@ pub fn release_2_exchanges() -> Vec<Scene> {
 }
 
 /// The rows of the table: reading each sheet, exchanges on the typical and the
-/// largest in both links, exchanges of both types at one L, and those of release 2.
+/// largest in both links, exchanges of both types at one L, those of release 2,
+/// and differences.
 pub fn table_scenes() -> Vec<Scene> {
     let plans = plans();
     let mut scenes: Vec<Scene> = plans.iter().map(reading).collect();
@@ -213,5 +219,6 @@ pub fn table_scenes() -> Vec<Scene> {
         }
     }
     scenes.extend(release_2_exchanges());
+    scenes.extend(difference_scenes());
     scenes
 }

@@ -5,6 +5,8 @@ use crate::trial::engines::Engine;
 use crate::trial::states::LENGTH;
 use std::time::Instant;
 
+/// Octets for a list of differences, more than any two sheets can fill.
+const LIST: usize = 4096;
 /// The shortest batch that is timed, in nanoseconds.
 const BATCH: u128 = 100_000;
 
@@ -18,6 +20,7 @@ struct Running<'a> {
     state: Vec<u8>,
     memory: Vec<u8>,
     reply: Vec<u8>,
+    list: Vec<u8>,
 }
 
 impl<'a> Running<'a> {
@@ -28,18 +31,21 @@ impl<'a> Running<'a> {
             state: vec![0; LENGTH],
             memory: scene.memory.clone(),
             reply: vec![0; scene.pdu_length()],
+            list: vec![0; LIST],
         }
     }
 
     /// One call; an exchange starts from the scene's state each time.
     #[inline(never)]
     fn call(&mut self) -> u64 {
-        match &self.scene.exchange {
-            None => (self.engine.sheet)(&self.scene.sheet),
-            Some((state, command)) => {
+        let scene = self.scene;
+        match (&scene.exchange, &scene.second) {
+            (None, None) => (self.engine.sheet)(&scene.sheet),
+            (None, Some(second)) => (self.engine.difference)(&scene.sheet, second, &mut self.list),
+            (Some((state, command)), _) => {
                 self.state.copy_from_slice(state);
                 (self.engine.exchange)(
-                    &self.scene.sheet,
+                    &scene.sheet,
                     &mut self.state,
                     &mut self.memory,
                     command,
@@ -52,7 +58,7 @@ impl<'a> Running<'a> {
     /// Nanoseconds of so many calls.
     fn batch(&mut self, calls: u64) -> u128 {
         let start = Instant::now();
-        // A place tells of a refused command, whose reply is built and timed as any other.
+        // A place tells of a refused command, whose reply is built and timed as any other, or of a list's length.
         let numbers = (0..calls).fold(0, |all, _| all | self.call() as u32);
         let elapsed = start.elapsed().as_nanos();
         assert!(
@@ -95,12 +101,13 @@ pub fn repeat(engine: &Engine, scene: &Scene, calls: u64) {
     Running::new(engine, scene).batch(calls);
 }
 
-/// Whether both engines leave the same reply, state and memory.
+/// Whether both engines leave the same reply, state, memory and list.
 pub fn agree(engines: &[Engine; 2], scene: &Scene) -> bool {
     let outcome = |engine| {
         let mut running = Running::new(engine, scene);
         let answer = running.call();
-        (answer, running.state, running.memory, running.reply)
+        let list = running.list;
+        (answer, running.state, running.memory, running.reply, list)
     };
     outcome(&engines[0]) == outcome(&engines[1])
 }
