@@ -1,5 +1,6 @@
 # Sourced by valgrind and sanitized, with the repository in $root, the output folder in $out, the checker's name in $checker and the words that run a program
-# under it in $under: compare with the kit's spoil.c between it and an archive, which lets every call through as long as SPOIL names none of its faults.
+# under it in $under: compare with the kit's spoil.c and our spoil_difference.c between it and an archive, which let every call through as long as SPOIL names
+# none of their faults.
 # shellcheck shell=sh disable=SC2154 # set where this is sourced
 
 # need_tools TOOL...: these and rustc, each in the package of its name; gcc takes the C library's headers from another.
@@ -17,18 +18,20 @@ need_tools() {
     DEBIAN_FRONTEND=noninteractive apt-get install -y -qq $missing >/dev/null
 }
 
-# build_spoil FLAG...: spoil.o.
+# build_spoil FLAG...: spoil.o and spoil_difference.o.
 build_spoil() {
-    gcc -std=c99 -Wall -Wextra -Wpedantic -Werror "$@" -I"$root/kit" -c "$root/kit/test/spoil.c" -o "$out/spoil.o"
+    for source in kit/test/spoil.c peer/spoil_difference.c; do
+        gcc -std=c99 -Wall -Wextra -Wpedantic -Werror "$@" -I"$root/kit" -c "$root/$source" -o "$out/$(basename "$source" .c).o"
+    done
 }
 
-# build_compare ARCHIVE FOLDER [FLAG...]: FOLDER/compare, linked with spoil.o and an archive, which stands behind it once more for a linker that looks into
+# build_compare ARCHIVE FOLDER [FLAG...]: FOLDER/compare, linked with these two and an archive, which stands behind them once more for a linker that looks into
 # an archive only for what is missing so far.
 build_compare() {
     archive=$1 folder=$2
     shift 2
-    flags="-C link-arg=$out/spoil.o -C link-arg=$archive $*"
-    for name in sheet lengths reset enable exchange replay; do
+    flags="-C link-arg=$out/spoil.o -C link-arg=$out/spoil_difference.o -C link-arg=$archive $*"
+    for name in sheet lengths reset enable exchange replay difference; do
         flags="$flags -C link-arg=-Wl,--wrap=t24_$name"
     done
     T24_LIB=$archive LINK_FLAGS=$flags PROGRAMS=compare OUT=$folder "$root/peer/build"
@@ -40,7 +43,7 @@ checked() {
     SPOIL=$2 $under "$1" "$3" "$seed" --blocks >"$out/log" 2>&1
 }
 
-# must_see COMPARE FAULT WORDS NAME: what the checker has to see in $tries exchanges, with a fault of spoil.c or, with 0, one of the archive; the words may go over lines.
+# must_see COMPARE FAULT WORDS NAME: what the checker has to see in $tries exchanges, with a fault of these two or, with 0, one of the archive; the words may go over lines.
 must_see() {
     if checked "$1" "$2" "${tries:-20000}" || ! tr '\n' ' ' <"$out/log" | grep -Eq "$3"; then
         cat "$out/log"
