@@ -86,10 +86,10 @@ impl Differences {
             lists.map(|(&name, count)| (name.into(), count)).collect();
         let count = |key| self.entries.get(&key).copied().unwrap_or(0);
         for kind in KINDS {
-            rows.push((format!("kind {kind:02} gone"), count((GONE | kind, 0))));
-            rows.push((format!("kind {kind:02} new"), count((NEW | kind, 0))));
+            rows.push((format!("record {kind:02} gone"), count((GONE | kind, 0))));
+            rows.push((format!("record {kind:02} new"), count((NEW | kind, 0))));
             for &bits in field_bits(kind) {
-                let name = format!("kind {kind:02} changed in fields {bits:03b}");
+                let name = format!("record {kind:02} changed in fields {bits:03b}");
                 rows.push((name, count((CHANGED | kind, bits))));
             }
         }

@@ -7,6 +7,7 @@ use super::layout::random_plan;
 use super::plan::Plan;
 use super::probe::Outcome;
 use super::random::Random;
+use super::report::Difference;
 use super::rig::Rig;
 
 /// A list up to this length is cut at every one.
@@ -83,7 +84,7 @@ fn lists_of_lengths(rig: &mut Rig, random: &mut Random) -> Outcome {
 }
 
 /// The length of the list, which a call without a buffer tells.
-pub fn needed(rig: &mut Rig) -> Result<usize, Box<super::report::Difference>> {
+pub fn needed(rig: &mut Rig) -> Result<usize, Box<Difference>> {
     let answer = list_in(rig, Vec::new())?;
     Ok(match answer as u32 {
         28 => (answer >> 32) as usize,
@@ -92,7 +93,7 @@ pub fn needed(rig: &mut Rig) -> Result<usize, Box<super::report::Difference>> {
 }
 
 /// One call with a buffer of this content.
-pub fn list_in(rig: &mut Rig, list: Vec<u8>) -> Result<u64, Box<super::report::Difference>> {
+pub fn list_in(rig: &mut Rig, list: Vec<u8>) -> Result<u64, Box<Difference>> {
     rig.inputs.list = list;
     rig.call(Call::Difference)
 }

@@ -49,29 +49,35 @@ fn with_room(rig: &mut Rig, first: &[u8], second: &[u8]) -> Outcome {
     Ok(())
 }
 
-/// Both types with every field the same or not, alone and with a record behind.
+/// Both types with every field the same or not, of which one L is none of the short type's.
 fn links(rig: &mut Rig) -> Outcome {
-    let mut links = Vec::new();
-    for kind in [1, 5] {
-        for length in [16, 48] {
-            for version in [3, 4] {
-                for profile in [3, 4] {
-                    links.push([kind, length, version, profile]);
-                }
-            }
-        }
-    }
+    let bit = |number: u8, at: u8| number >> at & 1;
+    let links: Vec<[u8; 4]> = (0..16)
+        .map(|number| {
+            let (kind, length) = (1 + 4 * bit(number, 0), 16 + 32 * bit(number, 1));
+            [kind, length, 3 + bit(number, 2), 3 + bit(number, 3)]
+        })
+        .collect();
     for first in &links {
         for second in &links {
-            for behind in [&[0][..], &[6, 1, 0]] {
-                around(rig, &[first, behind].concat(), &[second, behind].concat())?;
-                around(
-                    rig,
-                    &[&first[..], &[0]].concat(),
-                    &[second, behind].concat(),
-                )?;
-            }
+            beside_link(rig, first, second)?;
         }
+    }
+    Ok(())
+}
+
+/// Alone, and with a record behind the second or behind both.
+fn beside_link(rig: &mut Rig, first: &[u8], second: &[u8]) -> Outcome {
+    for [behind_first, behind_second] in [
+        [&[0][..], &[0]],
+        [&[0], &[6, 1, 0]],
+        [&[6, 1, 0], &[6, 1, 0]],
+    ] {
+        around(
+            rig,
+            &[first, behind_first].concat(),
+            &[second, behind_second].concat(),
+        )?;
     }
     Ok(())
 }
