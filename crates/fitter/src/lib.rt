@@ -1,6 +1,5 @@
 // The fitter's program: a replay of trace.bin on the sheet, the state and the memory of files, told in plain lines. A program has no heap, so the
 // trace goes by in pieces that end between records.
-mod files; // files.rt: files by arguments and default names
 mod showing; // showing.rt: a difference, octet by octet
 mod pieces; // pieces.rt: the two passes over the trace
 

@@ -1,5 +1,4 @@
 // The two passes over the trace, by pieces of whole records: its form, then its exchanges.
-use crate::files;
 use crate::showing;
 use libc::STDERR_FILENO;
 use std::num::wrapping_add_u64;

@@ -12,6 +12,11 @@ fn digit(half: u8) -> u8 {
     55 + n
 }
 
+// One digit; whether it was written.
+pub fn write_digit(half: u8) -> bool {
+    io::write_all(STDOUT_FILENO, &[digit(half)])
+}
+
 // The digits of octets, two for each, at the front of a line, as far as it goes; how many there are.
 fn digits(octets: &[u8], line: &mut [u8]) -> usize
     ensures { λ r. ⌜ r ≤ length (now (line .exit)) ⌝ }

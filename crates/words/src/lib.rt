@@ -37,19 +37,24 @@ pub fn print_refusal(number: u8, place: u64) {
 }
 
 // An octet in hex.
-fn print_octet(octet: u8) {
+pub fn print_octet(octet: u8) {
     hex::write_hex(&[octet]);
 }
 
 // A number of octets.
-fn print_size(n: u64) {
-    print(b", ");
+pub fn print_octets(n: u64) {
     print_number(n);
     if n == 1 {
         print(b" octet");
         return;
     }
     print(b" octets");
+}
+
+// A number of octets behind other words.
+pub fn print_size(n: u64) {
+    print(b", ");
+    print_octets(n);
 }
 
 // The span of a memory command, by the element in its mode's high half (docs/DECISIONS.md, 1); a mode that names none is shown as it stands.
