@@ -38,10 +38,13 @@ fn print_gap(end: u64, start: u64) {
     if end == 0 || start <= end {
         return;
     }
+    let last = wrapping_sub_u64(start, 1);
     print(b"      gap ");
     records::print_address(end);
-    print(b" to ");
-    records::print_address(wrapping_sub_u64(start, 1));
+    if end < last {
+        print(b" to ");
+        records::print_address(last);
+    }
     print(b"\n");
 }
 
@@ -49,24 +52,42 @@ fn print_gap(end: u64, start: u64) {
 fn print_memory(from: u64, length: u64) {
     print(b"; memory ");
     print_number(from);
-    print(b" to ");
-    print_number(wrapping_sub_u64(wrapping_add_u64(from, length), 1));
+    if 1 < length {
+        print(b" to ");
+        print_number(wrapping_sub_u64(wrapping_add_u64(from, length), 1));
+    }
 }
 
-// A record's line, behind the octets of memory of the regions before.
+// What a tolerance counts.
+fn print_lost(n: u8) {
+    if n == 1 {
+        print(b" lost cycle in a row");
+        return;
+    }
+    print(b" lost cycles in a row");
+}
+
+// What is said of a record here alone, behind its fields.
+fn print_more(kind: u8, body: &[u8], memory: u64) {
+    match kind {
+        records::REGION => print_memory(memory, octets::le4_at(body, 4) as u64),
+        records::ITEM => {
+            print(b", ");
+            fields::print_content(body);
+        }
+        records::TOLERANCE => print_lost(octets::octet(body, 0)),
+        _ => print(b""),
+    }
+}
+
+// A record's line.
 fn print_line(kind: u8, body: &[u8], so: Walk) {
     print_place(so.at as u64);
     records::print_name(kind, body);
     if kind != records::END {
         print(b": ");
         fields::print_body(kind, body);
-    }
-    if kind == records::REGION {
-        print_memory(so.memory, octets::le4_at(body, 4) as u64);
-    }
-    if kind == records::ITEM {
-        print(b", ");
-        fields::print_content(body);
+        print_more(kind, body, so.memory);
     }
     print(b"\n");
 }

@@ -4,7 +4,7 @@ use crate::records;
 use words::print;
 use words::print_number;
 use words::print_octet;
-ghost use Prim.Native.Nat.{_≤_, _<_};
+ghost use Prim.Native.Nat.{_≤_};
 
 // 11: nothing where a record should be, or a part of it.
 fn print_ended(sheet: &[u8], place: usize) {

@@ -5,7 +5,6 @@ use words::print_number;
 use words::print_octet;
 use words::print_octets;
 use words::print_size;
-ghost use Prim.Native.Nat.{_≤_, _-_};
 
 // A region's rights.
 pub fn print_rights(rights: u8) {
