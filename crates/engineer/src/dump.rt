@@ -202,13 +202,14 @@ pub fn print_sheet(sheet: &[u8]) {
     }
 }
 
-// The whole run, on the sheet of a file.
+// The whole run, on the sheet of a file; there is room for one octet more than a sheet may have, so that a longer one is refused. That it is empty or
+// too long its fault says.
 pub fn run() {
     let fd = files::open(1, b"sheet.bin");
     if fd < 0 {
         return;
     }
     let mut room = [0u8; 2049];
-    let n = files::read(fd, 1, b"sheet.bin", &mut room);
+    let n = files::take(fd, 1, b"sheet.bin", &mut room);
     print_sheet(&room[..n]);
 }

@@ -57,6 +57,18 @@ pub fn is_at_end(fd: i32, i: usize, name: &[u8]) -> bool {
     true
 }
 
+// A file as far as lent room goes; how many octets were read. One that cannot be read gets its line.
+pub fn take(fd: i32, i: usize, name: &[u8], room: &mut [u8]) -> usize
+    ensures { λ r. ⌜ Counts r (now (room .exit)) ⌝ }
+{
+    let n = io::read_full(fd, room);
+    if n < room.len() {
+        is_at_end(fd, i, name);
+    }
+    libc::close(fd);
+    n
+}
+
 // A file whole in lent room that has one octet more than such a file may have; how many octets it has.
 pub fn read(fd: i32, i: usize, name: &[u8], room: &mut [u8]) -> usize
     ensures { λ r. ⌜ Counts r (now (room .exit)) ⌝ }
