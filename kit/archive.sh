@@ -49,7 +49,7 @@ install_processor() {
     own=$1/$2 compiler=$3
     mkdir -p "$own/lib/pkgconfig"
     ln -sfn ../include "$own/include"
-    rm -f "$own/libexec/bench" "$own/libexec/replayer" "$own/libexec/t24-explain" # none is left of an earlier build
+    for program in $PROGRAMS t24-explain; do rm -f "$own/libexec/$program"; done # none is left of an earlier build
     cp "$work/libtype24.a" "$own/lib/libtype24.a"
     sed "s/@VERSION@/$(version_of "$1")/" "$kit/type24.pc.in" >"$own/lib/pkgconfig/type24.pc"
     [ $# -lt 4 ] || install_programs "$own/libexec" "$4"
@@ -59,7 +59,7 @@ install_processor() {
 
 install_programs() {
     mkdir -p "$1"
-    for program in bench replayer; do
+    for program in $PROGRAMS; do
         [ -f "$2/$program" ] || fail "no program at $2/$program"
         cp "$2/$program" "$1/$program"
         chmod 755 "$1/$program"

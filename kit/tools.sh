@@ -1,6 +1,8 @@
-# Sourced by build, add-processor and test-kit, peer/figures/run and tests/programs/run: which tools make and run x86-64 programs on this
-# machine, and those for another processor.
+# Sourced by make-dist, build, add-processor and test-kit, peer/figures/run and tests/programs/run: which tools make and run x86-64 programs on this
+# machine, and those for another processor; and which programs there are.
 # shellcheck shell=sh disable=SC2034
+
+PROGRAMS="bench replayer sheetdump"
 
 if [ "$(uname -m)" = x86_64 ]; then
     NATIVE=yes

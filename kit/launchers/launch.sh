@@ -33,6 +33,32 @@ no_options() {
     done
 }
 
+# take_options PLACE WORD...: --help and --hex in front of the files; $hex says whether --hex was among them, and $taken how many words that were.
+take_options() {
+    before=$1 hex=no taken=0
+    shift
+    while [ $# -gt 0 ]; do
+        case $1 in
+        --help | -h)
+            show_help
+            exit 0
+            ;;
+        --hex) hex=yes ;;
+        --)
+            taken=$((taken + 1))
+            return
+            ;;
+        -?*) refuse_usage "unknown option $1" ;;
+        *)
+            no_options "$before" "$@"
+            return
+            ;;
+        esac
+        shift
+        taken=$((taken + 1))
+    done
+}
+
 need_work() { [ -n "$work" ] || work=$(mktemp -d) || refuse "no room for temporary files"; }
 
 # need_file FILE: one that can be opened, and read more than once; the fault is said by the file's name.
@@ -51,6 +77,15 @@ need_file() {
         return 0
     fi
     return 1
+}
+
+# lay_sheet FILE NAME: the sheet, in octets or by --hex in lines of hex, where a program that runs in $work finds it.
+lay_sheet() {
+    if [ "$hex" = yes ]; then
+        "$root/bin/t24-hex" to "$work/$2" <"$1" || refuse "$1: not lines of hex"
+    else
+        cp -- "$1" "$work/$2" || refuse "$1: can't be read"
+    fi
 }
 
 # find_program PROGRAM: its file and, where it is for another processor, the emulator's words, in $program and $emulator.
