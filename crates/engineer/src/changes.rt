@@ -18,12 +18,7 @@ const CHANGED: u8 = 6;
 fn key_size(kind: u8) -> usize
     ensures { λ r. ⌜ r ≤ 4 ⌝ }
 {
-    match kind {
-        records::REGION => 4,
-        records::PARAMETER => 2,
-        records::ITEM => 1,
-        _ => 0,
-    }
+    difference::records::key_width(kind)
 }
 
 // The octets of an entry; what begins none counts as one octet, so that the walk goes on.
@@ -240,36 +235,4 @@ pub fn print_list(first: &[u8], list: &[u8]) {
     while at < 65535 && at < list.len() {
         at = print_at(first, list, at);
     }
-}
-
-// A refused sheet: which one it is, number, place and words. The second sheet's numbers are ten higher than the fault's.
-fn print_refused_sheet(which: &[u8], number: u8, place: u32, sheet: &[u8], fault: u8) {
-    print(which);
-    print(b" sheet refused: ");
-    print_number(number as u64);
-    print(b" at octet ");
-    print_number(place as u64);
-    print(b": ");
-    // A sheet's places are below that; a test is shorter than that proof.
-    if place < 65536 {
-        crate::faults::print_words(sheet, fault, place as usize);
-    }
-    print(b"\n");
-}
-
-// A refusal of the call, by its number and place.
-pub fn print_refusal(first: &[u8], second: &[u8], number: u8, place: u32) {
-    if number < 18 {
-        print_refused_sheet(b"first", number, place, first, number);
-        return;
-    }
-    if number < 28 {
-        print_refused_sheet(b"second", number, place, second, number - 10);
-        return;
-    }
-    print(b"refused: ");
-    print_number(number as u64);
-    print(b", the list needs ");
-    words::print_octets(place as u64);
-    print(b"\n");
 }

@@ -4,3 +4,4 @@ pub mod fields; // fields.rt: what a record says, field by field
 pub mod faults; // faults.rt: a sheet's fault in words
 pub mod dump; // dump.rt: a whole sheet in words
 pub mod changes; // changes.rt: a list of differences in words
+pub mod compare; // compare.rt: what changed between the sheets of two files

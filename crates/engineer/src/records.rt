@@ -21,18 +21,11 @@ pub const TOLERANCE: u8 = 6;
 
 pub const RELEASE: u8 = 7;
 
-// The octets of a record, its kind octet among them; what no sheet has counts as one octet, so that every walk goes on.
+// The octets of a record, its kind octet among them; so many that every walk goes on.
 pub fn size(kind: u8) -> usize
     ensures { λ r. ⌜ (1 ≤ r) × (r ≤ 35) ⌝ }
 {
-    match kind {
-        LINK | SHORT_LINK => 4,
-        REGION => 10,
-        PARAMETER => 8,
-        ITEM => 35,
-        TOLERANCE | RELEASE => 2,
-        _ => 1,
-    }
+    difference::records::size(kind)
 }
 
 // What tells a record from the others of its kind: start, number or code. A kind that stands once has none.
