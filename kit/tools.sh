@@ -2,7 +2,7 @@
 # machine, and those for another processor; and which programs there are.
 # shellcheck shell=sh disable=SC2034
 
-PROGRAMS="bench replayer sheetdump"
+PROGRAMS="bench replayer sheetdump sheetdiff"
 
 if [ "$(uname -m)" = x86_64 ]; then
     NATIVE=yes

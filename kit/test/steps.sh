@@ -13,7 +13,7 @@ test_contents() {
         lib/libtype24.a lib/pkgconfig/type24.pc doc/LINKING.md doc/PROCESSORS.md \
         doc/INTEGRATOR.md doc/FITTER.md doc/ENGINEER.md doc/RULES.md doc/rules/calls.md \
         example/oven.c example/newsheet.c example/example.sheet example/short.sheet example/rules.sheet example/explain.c bin/t24-explain \
-        bin/bench bin/replayer bin/sheetdump bin/t24-hex VERSION; do
+        bin/bench bin/replayer bin/sheetdump bin/sheetdiff bin/t24-hex VERSION; do
         [ -f "$dist/$file" ] || fail "the kit lacks $file"
     done
     cat "$dist/VERSION"
