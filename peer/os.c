@@ -1,4 +1,4 @@
-/* What bench and replayer ask of the kit's library os, for a processor for
+/* What the programs ask of the kit's library os, for a processor for
  * which the kit has no C code of it: the contracts are those of its c.rt. */
 #define _GNU_SOURCE /* O_CLOEXEC, and glibc's arguments of a constructor */
 #include <errno.h>

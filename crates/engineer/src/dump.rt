@@ -186,7 +186,7 @@ fn print_fault(sheet: &[u8], number: u8, place: u16) {
 }
 
 // All lines of a sheet.
-pub fn print_sheet(sheet: &[u8]) {
+fn print_sheet(sheet: &[u8]) {
     let verdict = sheet::walk::check(sheet);
     match verdict {
         Verdict::Valid(layout) => {
