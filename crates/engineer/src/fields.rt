@@ -76,7 +76,7 @@ fn print_parameter(body: &[u8]) {
     print_size(octets::octet(body, 6) as u64);
 }
 
-// What a record says behind its key; an end says nothing.
+// What a record says behind its key; one of a single octet, a tolerance or a rule release, says that. An end has no body, and is not asked.
 pub fn print_body(kind: u8, body: &[u8]) {
     match kind {
         records::LINK | records::SHORT_LINK => print_link(body),
