@@ -1,4 +1,4 @@
--- Document 01, and requests 1, 3, 5, 6, 7, 8, 9 and 13 of document 02, as tables, each word before its use. They share no definition with the machine, but the library's words for
+-- Document 01, and requests 1, 2, 3, 5, 6, 7, 8, 9 and 13 of document 02, as tables, each word before its use. They share no definition with the machine, but the library's words for
 -- lists and numbers. Promises has what the calls promise, by the machine's definitions, and ByTables says that this is what the tables say. A quotation is
 -- the paper's own words, ".." standing for some left out; where its table has columns, they are joined by a colon.
 -- Not here, of these papers: what is the host's duty or the boundary's ("That the buffers are distinct", "never with a struct of the caller's layout"; kit);
