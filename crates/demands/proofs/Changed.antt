@@ -21,7 +21,7 @@ use Rattle.law.proofs.ReadBack.{read-one-way as read-once}
 use Rattle.law.proofs.Records.{written-entries}
 use Rattle.law.proofs.Rises.{entries-rise, entries-shaped}
 use Rattle.law.proofs.Told.{the-list, is-merge}
-use Rattle.demands.specs.Changed.{OneList, EmptyIfEqual, AppliedGivesSecond, ReadOneWay}
+use Rattle.demands.specs.Changed.{OneList, EmptyExactlyIfEqual, AppliedGivesSecond, ReadOneWay}
 use Rattle.demands.specs.Changed.{kindOf, keyOf, OneForARecord, UnchangedIsNotListed, BitsAreFields}
 
 pub one-list : OneList
@@ -30,8 +30,8 @@ one-list = record {
   and-no-other = λ a b. lists-once (entriesOf a) (entriesOf b);
 }
 
-pub empty-if-equal : EmptyIfEqual
-empty-if-equal a b v w list l =
+pub empty-exactly-if-equal : EmptyExactlyIfEqual
+empty-exactly-if-equal a b v w list l =
     let m = is-merge a b v w list l in
     let none = empty-merge (entriesOf a) (entriesOf b) (entries-shaped a) (entries-shaped b) in (
       λ e. written-entries a ∙ ap writtenOf (none .0 (sym m ∙ e)) ∙ sym (written-entries b),

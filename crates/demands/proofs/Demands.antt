@@ -5,7 +5,7 @@ use Rattle.demands.specs.Demands.{FirstDemand, SecondDemand, ThirdDemand
 use Rattle.demands.proofs.Agreed.{traces-have-replies, agrees-exactly}
 use Rattle.demands.proofs.Alone.{refuses-all-keeps-secrets, single-reply-keeps-secrets, stores-nothing-keeps-secrets, echoes-afterwards-keeps-secrets, invents-rsn-keeps-secrets, invents-rsn-agrees-where-reached}
 use Rattle.demands.proofs.Bench.{sheet-p-is-valid, bench-cases}
-use Rattle.demands.proofs.Changed.{one-list, empty-if-equal, applied-gives-second, read-one-way}
+use Rattle.demands.proofs.Changed.{one-list, empty-exactly-if-equal, applied-gives-second, read-one-way}
 use Rattle.demands.proofs.Changed.{one-for-a-record, unchanged-is-not-listed, bits-are-fields}
 use Rattle.demands.proofs.ChangedCall.{the-call-tells-it, refused-writes-nothing}
 use Rattle.demands.proofs.ChangedShown.{shown}
@@ -83,7 +83,7 @@ request-2 = record {
   one-for-a-record = one-for-a-record;
   unchanged-is-not-listed = unchanged-is-not-listed;
   bits-are-fields = bits-are-fields;
-  empty-if-equal = empty-if-equal;
+  empty-exactly-if-equal = empty-exactly-if-equal;
   applied-gives-the-second = applied-gives-second;
   octets-are-read-one-way = read-one-way;
   the-call-tells-it = the-call-tells-it;

@@ -8,9 +8,10 @@ use mathlib.Core.Logic.{_⊎_, _↔_}
 use mathlib.Core.Path.{_≡_}
 use lib.ListN.{length, getD}
 use Rattle.difference.specs.Difference.{differenceOf}
-use Rattle.law.specs.Words.{bit}
-use Rattle.law.specs.Sheet.{enhanced, short, Sheet, WellFormed, sheetOctets}
-use Rattle.law.specs.Difference.{Entry, Change, gone, new, changed, entriesOf, In, Lists, listOctets, applied, writtenOf}
+use Rattle.law.specs.Words.{bit, Every}
+use Rattle.law.specs.Sheet.{Sheet, WellFormed, IsOctet, sheetOctets}
+use Rattle.law.specs.Faults.{FirstFault}
+use Rattle.law.specs.Difference.{Entry, Change, gone, new, changed, orderOfKind, entriesOf, In, Lists, listOctets, applied, writtenOf}
 
 -- the list of two good sheets: there is one, and "two lists that meet the definition are equal"
 pub record OneList : Type 0 where
@@ -18,8 +19,8 @@ pub record OneList : Type 0 where
   pub and-no-other : (a b : Sheet) (list other : List Change) → Lists (entriesOf a) (entriesOf b) list → Lists (entriesOf a) (entriesOf b) other → list ≡ other
 
 -- "The list is empty exactly when the sheets are equal", octet by octet
-abbrev pub EmptyIfEqual : Type 0
-EmptyIfEqual =
+abbrev pub EmptyExactlyIfEqual : Type 0
+EmptyExactlyIfEqual =
     (a b : Sheet) → WellFormed a → WellFormed b → (list : List Change) → Lists (entriesOf a) (entriesOf b) list
     → (list ≡ []) ↔ (sheetOctets a ≡ sheetOctets b)
 
@@ -29,7 +30,7 @@ AppliedGivesSecond =
     (a b : Sheet) → WellFormed a → WellFormed b → (list : List Change) → Lists (entriesOf a) (entriesOf b) list
     → (applied list (entriesOf a) ≡ entriesOf b) × (writtenOf (applied list (entriesOf a)) ≡ sheetOctets b)
 
--- and that goes by the octets alone: octets are those of one list, whichever sheets it is of
+-- and the octets say which list it is, whichever sheets it is of
 abbrev pub ReadOneWay : Type 0
 ReadOneWay =
     (a b c d : Sheet) → WellFormed a → WellFormed b → WellFormed c → WellFormed d → (list other : List Change)
@@ -52,13 +53,43 @@ OneForARecord =
     (a b : Sheet) → WellFormed a → WellFormed b → (list : List Change) → Lists (entriesOf a) (entriesOf b) list → (c d : Change) → In c list → In d list
     → kindOf c ≡ kindOf d → keyOf c ≡ keyOf d → c ≡ d
 
--- a record that both sheets have is not in the list, nor is its key
+-- gone, and new
+abbrev pub IsGone : Change → Type 0
+IsGone (gone kind key) = Unit {0}
+IsGone (new y) = ⊥
+IsGone (changed bits y) = ⊥
+
+abbrev pub IsNew : Change → Type 0
+IsNew (gone kind key) = ⊥
+IsNew (new y) = Unit {0}
+IsNew (changed bits y) = ⊥
+
+-- "in the order link, regions by start, parameters by number, ID items by code. .. Later requests' kinds follow the ID items": by kind, then by key; where the
+-- link record's kind is another, "gone then comes before new" (request 7)
+abbrev pub Precedes : Change → Change → Type 0
+Precedes c d =
+    (orderOfKind (kindOf c) < orderOfKind (kindOf d))
+    ⊎ ((orderOfKind (kindOf c) ≡ orderOfKind (kindOf d)) × ((keyOf c < keyOf d) ⊎ ((keyOf c ≡ keyOf d) × IsGone c × IsNew d)))
+
+-- "once, in the order": of two entries the one that stands first precedes, and so none stands twice
+abbrev pub OnceAndInOrder : Type 0
+OnceAndInOrder =
+    (a b : Sheet) → WellFormed a → WellFormed b → (list : List Change) → Lists (entriesOf a) (entriesOf b) list → (i j : ℕ) → i < j → j < length list
+    → Precedes (getD list i (gone 0 0)) (getD list j (gone 0 0))
+
+-- the numbers of a list are octets
+abbrev pub ListIsOctets : Type 0
+ListIsOctets =
+    (a b : Sheet) → WellFormed a → WellFormed b → (list : List Change) → Lists (entriesOf a) (entriesOf b) list → Every IsOctet (listOctets list)
+
+-- a record that both sheets have is not in the list, nor is its key under its kind
 abbrev pub UnchangedIsNotListed : Type 0
 UnchangedIsNotListed =
     (a b : Sheet) → WellFormed a → WellFormed b → (list : List Change) → Lists (entriesOf a) (entriesOf b) list → (e : Entry) → In e (entriesOf a)
     → In e (entriesOf b) → (c : Change) → In c list → kindOf c ≡ e .kind → keyOf c ≡ e .key → ⊥
 
--- "changed, with the field": in the first sheet is a record of that kind and key, and a bit is set exactly where the field of its number is another; one is
+-- "changed, with the field": in the first sheet is a record of that kind and key, and a bit is set exactly where the field of its number is another; at least one
+-- is
 abbrev pub BitsAreFields : Type 0
 BitsAreFields =
     (a b : Sheet) → WellFormed a → WellFormed b → (list : List Change) → Lists (entriesOf a) (entriesOf b) list → (bits : ℕ) (y : Entry)
@@ -84,50 +115,9 @@ abbrev pub RefusedWritesNothing : Type 0
 RefusedWritesNothing =
     (first second lent : List ℕ) → (differenceOf first second lent .answer .number ≡ 0 → ⊥) → differenceOf first second lent .list ≡ lent
 
--- a case of our own: a link record of the other type, regions with fewer rights, gone and new, a parameter new and one moved, an ID item gone, 06 changed, 07 new
-abbrev pub firstShown : Sheet
-firstShown = record {
-  pdu = enhanced;
-  l = 16;
-  version = 0x30;
-  profile = 0;
-  regions = record { start = 0x1000; length = 4; rights = 3 } ∷ record { start = 0x1004; length = 4; rights = 6 } ∷ [];
-  parameters = record { number = 7; address = 0x1002; size = 2 } ∷ [];
-  items = record { code = 2; length = 4; octets = 1 ∷ 2 ∷ 3 ∷ 4 ∷ 0 ∷ 0 ∷ 0 ∷ 0 ∷ 0 ∷ 0 ∷ 0 ∷ 0 ∷ 0 ∷ 0 ∷ 0 ∷ 0 ∷ 0 ∷ 0 ∷ 0 ∷ 0 ∷ 0 ∷ 0 ∷ 0 ∷ 0 ∷ 0 ∷ 0 ∷ 0 ∷ 0 ∷ 0 ∷ 0 ∷ 0 ∷ 0 ∷ [] } ∷ [];
-  tolerances = 2 ∷ [];
-  releases = [];
-}
-
-abbrev pub secondShown : Sheet
-secondShown = record {
-  pdu = short;
-  l = 16;
-  version = 0x30;
-  profile = 0;
-  regions = record { start = 0x1000; length = 4; rights = 1 } ∷ record { start = 0x1008; length = 4; rights = 6 } ∷ [];
-  parameters = record { number = 0; address = 0x1000; size = 1 } ∷ record { number = 7; address = 0x1000; size = 2 } ∷ [];
-  items = [];
-  tolerances = 0 ∷ [];
-  releases = 1 ∷ [];
-}
-
-abbrev pub listShown : List ℕ
-listShown =
-    0x41
-    ∷ 0x55 ∷ 0x10 ∷ 0x30 ∷ 0
-    ∷ 0x62 ∷ 4 ∷ 0 ∷ 0x10 ∷ 0 ∷ 0 ∷ 4 ∷ 0 ∷ 0 ∷ 0 ∷ 1
-    ∷ 0x42 ∷ 4 ∷ 0x10 ∷ 0 ∷ 0
-    ∷ 0x52 ∷ 8 ∷ 0x10 ∷ 0 ∷ 0 ∷ 4 ∷ 0 ∷ 0 ∷ 0 ∷ 6
-    ∷ 0x53 ∷ 0 ∷ 0 ∷ 0 ∷ 0x10 ∷ 0 ∷ 0 ∷ 1
-    ∷ 0x63 ∷ 2 ∷ 7 ∷ 0 ∷ 0 ∷ 0x10 ∷ 0 ∷ 0 ∷ 2
-    ∷ 0x44 ∷ 2
-    ∷ 0x66 ∷ 1 ∷ 0
-    ∷ 0x57 ∷ 1
-    ∷ []
-
--- what the call leaves of them in a buffer of that length, by the machine
-abbrev pub Shown : Type 0
-Shown =
-    (lent : List ℕ) → length lent ≡ 55
-    → (differenceOf (sheetOctets firstShown) (sheetOctets secondShown) lent .answer .number ≡ 0)
-    × (differenceOf (sheetOctets firstShown) (sheetOctets secondShown) lent .list ≡ listShown)
+-- "11 to 17 for the first sheet; then 21 to 27 likewise for the second": with the place, and whatever else is lent
+pub record RefusalsInOrder : Type 0 where
+  pub the-first-sheet : (first second lent : List ℕ) → Every IsOctet first → (f place : ℕ) → FirstFault first f place
+      → (differenceOf first second lent .answer .number ≡ f) × (differenceOf first second lent .answer .place ≡ place)
+  pub then-the-second : (a : Sheet) → WellFormed a → (second lent : List ℕ) → Every IsOctet second → (f place : ℕ) → FirstFault second f place
+      → (differenceOf (sheetOctets a) second lent .answer .number ≡ f + 10) × (differenceOf (sheetOctets a) second lent .answer .place ≡ place)

@@ -14,7 +14,8 @@ use Rattle.law.specs.Promises.{Promises}
 use Rattle.slave.specs.Exchange.{Left}
 use Rattle.demands.specs.Accepted.{AcceptanceIsExact, RightsOverWholeSpan}
 use Rattle.demands.specs.Bench.{SheetPIsValid, BenchCases}
-use Rattle.demands.specs.Changed.{OneList, EmptyIfEqual, AppliedGivesSecond, ReadOneWay, OneForARecord, UnchangedIsNotListed, BitsAreFields, TheCallTellsIt, RefusedWritesNothing, Shown}
+use Rattle.demands.specs.Changed.{OneList, EmptyExactlyIfEqual, AppliedGivesSecond, ReadOneWay, OneForARecord, UnchangedIsNotListed, BitsAreFields, TheCallTellsIt, RefusedWritesNothing, OnceAndInOrder, ListIsOctets, RefusalsInOrder}
+use Rattle.demands.specs.ChangedShown.{Shown}
 use Rattle.demands.specs.Granted.{MoreRightsChangeNothing, TraceAgreesToo, NotWithoutIt}
 use Rattle.demands.specs.Hidden.{Demand3}
 use Rattle.demands.specs.Identity.{IdentityComesBack, ControlIsIgnored}
@@ -90,19 +91,23 @@ pub record Request1 : Type 0 where
 pub record Request2 : Type 0 where
   -- "lists each difference of two sheets once, in the order .."
   pub one-list : OneList
+  pub once-and-in-order : OnceAndInOrder
   pub one-for-a-record : OneForARecord
   pub unchanged-is-not-listed : UnchangedIsNotListed
   -- "changed, with the field"
   pub bits-are-fields : BitsAreFields
   -- "The list is empty exactly when the sheets are equal."
-  pub empty-if-equal : EmptyIfEqual
+  pub empty-exactly-if-equal : EmptyExactlyIfEqual
   -- "Applied to the first it gives the second; that is proved."
   pub applied-gives-the-second : AppliedGivesSecond
   pub octets-are-read-one-way : ReadOneWay
+  pub the-list-is-octets : ListIsOctets
   -- "28, exactly when the list is longer than the lent buffer. These write nothing; octets behind the list stay."
   pub the-call-tells-it : TheCallTellsIt
   pub a-refused-one-writes-nothing : RefusedWritesNothing
-  -- a case of our own
+  -- "11 to 17 for the first sheet; then 21 to 27 likewise for the second"
+  pub refusals-in-order : RefusalsInOrder
+  -- cases of our own
   pub shown : Shown
 
 -- Document 02, request 3, "Say which octet was wrong". Demands 1 to 3 and the bench cases above are of the machine that tells it.

@@ -18,6 +18,7 @@ pub mod Release
 pub mod Replays
 pub mod Granted
 pub mod Changed
+pub mod ChangedShown
 pub mod Unique
 pub mod Bench
 pub mod LawBench

@@ -9,7 +9,7 @@ use borrow.Author.Tests.{eqb-true, eq-eqb, lt-ltb, le-ltb}
 use lib.Dec.{eqb}
 use Rattle.octets.proofs.Cases.{decided}
 use Rattle.law.specs.Words.{Every}
-use Rattle.law.specs.Difference.{Entry, Change, gone, new, changed, rank, rankOf, bitsOf, turnOf, without, within, instead, appliedOne, applied}
+use Rattle.law.specs.Difference.{Entry, Change, gone, new, changed, rank, rankOf, bitsOf, turnOf, without, putIn, instead, appliedOne, applied}
 use Rattle.law.proofs.Laid.{when-yes, when-no}
 use Rattle.law.proofs.Merge.{Rising, Shaped, both, merge}
 use Rattle.law.proofs.Ranks.{when-cases, same-key, Below, same-entry, and-true}
@@ -34,8 +34,8 @@ drops : (x : Entry) (xs : List Entry) → without (x .kind) (x .key) (x ∷ xs) 
 unfolding without
 drops x xs = when-yes _ _ (meets (x .kind) (x .key) x refl refl)
 
-enters : (y : Entry) (xs : List Entry) → Below (rankOf y) xs → within y xs ≡ y ∷ xs
-unfolding within
+enters : (y : Entry) (xs : List Entry) → Below (rankOf y) xs → putIn y xs ≡ y ∷ xs
+unfolding putIn
 enters y [] b = refl
 enters y (x ∷ xs) b = when-yes _ _ (lt-ltb (rankOf y) (rankOf x) (b .0))
 
@@ -45,7 +45,7 @@ replaces x y xs k e = when-yes _ _ (meets (y .kind) (y .key) x k e)
 
 -- changes further on leave the head
 passes-one : (c : Change) (p : Entry) (es : List Entry) → 2 * rankOf p + 1 < turnOf c → appliedOne c (p ∷ es) ≡ p ∷ appliedOne c es
-unfolding appliedOne without within instead turnOf
+unfolding appliedOne without putIn instead turnOf
 passes-one (gone k e) p es h = when-no _ _ (misses k e p (λ q. omega arith))
 passes-one (new y) p es h = when-no _ _ (le-ltb (rankOf y) (rankOf p) (omega arith))
 passes-one (changed b y) p es h = when-no _ _ (misses (y .kind) (y .key) p (λ q. omega arith))
@@ -96,7 +96,7 @@ module _ (x y : Entry) (xs ys : List Entry) (l : List Change) (e : rankOf x ≡ 
       (λ u. ap (λ (p : Entry). applied l (p ∷ xs)) (same-entry x y s t k key (eqb-true (bitsOf x y) 0 u)) ∙ comes)
       (λ u. ap (applied l) (replaces x y xs (sym k) (sym key)) ∙ comes))
       (λ z.
-      ap (λ (p : List Entry). applied l (within y p)) (drops x xs)
+      ap (λ (p : List Entry). applied l (putIn y p)) (drops x xs)
       ∙ ap (applied l) (enters y xs (subst (λ (n : ℕ). Below n xs) e a)) ∙ comes)
 
   both-gives : Gives (x ∷ xs) (y ∷ ys) (both x y ++ l)

@@ -13,7 +13,7 @@ use Rattle.sheet.specs.Kinds.{sizeOf}
 use Rattle.difference.specs.Records.{kindAt, sizeAt, cut, keyWidth, keyAt, placeOf, rankAt, firstWidth, secondWidth, thirdWidth}
 use Rattle.difference.specs.Merge.{goneOf, newOf}
 use Rattle.law.specs.Words.{when, inOctets}
-use Rattle.law.specs.Difference.{Entry, bodyOf, placed, rank, rankOf, gone, new, keyLength, changeOctets}
+use Rattle.law.specs.Difference.{Entry, bodyOf, orderOfKind, rank, rankOf, gone, new, keyLength, changeOctets}
 use Rattle.law.proofs.Laid.{picked}
 
 -- octets at a place
@@ -57,11 +57,11 @@ same-width kind =
     ∙ ap (λ (n : ℕ). pick (eqb kind 2) 4 n) (picked (eqb kind 3) 2 (when (eqb kind 4) 1 0))
     ∙ picked (eqb kind 2) 4 (when (eqb kind 3) 2 (when (eqb kind 4) 1 0))
 
-same-place : (kind : ℕ) → 1 ≤ kind → placeOf kind ≡ placed kind
+same-place : (kind : ℕ) → 1 ≤ kind → placeOf kind ≡ orderOfKind kind
 unfolding placeOf
 same-place kind h = pick-ne _ _ (λ (z : kind ≡ 0). let w : ⊥ = omega arith in w) ∙ picked (eqb kind 5) 1 kind
 
-low-place : (kind : ℕ) → kind ≤ 7 → placed kind ≤ 7
+low-place : (kind : ℕ) → kind ≤ 7 → orderOfKind kind ≤ 7
 low-place kind h = subst (λ (n : ℕ). n ≤ 7) (picked (eqb kind 5) 1 kind) (pick-cases (λ n. n ≤ 7) (eqb kind 5) (λ e. omega arith) (λ e. h))
 
 -- every record stands before the end

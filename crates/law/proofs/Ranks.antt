@@ -9,7 +9,7 @@ use borrow.Author.Tests.{eqb-true, eq-eqb}
 use lib.Dec.{eqb}
 use lib.ListN.{length}
 use Rattle.law.specs.Words.{when, Every}
-use Rattle.law.specs.Difference.{Entry, placed, rank, rankOf, same, bitsFrom, bitsOf, In, Has}
+use Rattle.law.specs.Difference.{Entry, orderOfKind, rank, rankOf, same, bitsFrom, bitsOf, In, Has}
 use Rattle.law.proofs.Merge.{Shaped}
 
 -- what holds of either arm, given its test
@@ -21,7 +21,7 @@ when-cases P false p q = q refl
 -- of one kind, two keys at one place are one
 pub same-key : (kind key other : ℕ) → rank kind key ≡ rank kind other → key ≡ other
 unfolding rank
-same-key kind key other e = let p = placed kind in omega arith
+same-key kind key other e = let p = orderOfKind kind in omega arith
 
 -- all records of a list come behind a place
 abbrev pub Below : ℕ → List Entry → Type 0

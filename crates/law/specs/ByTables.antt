@@ -25,7 +25,7 @@ ByLaw sheet Does refusal x =
 abbrev pub hostHasList : ℕ → List ℕ → Told
 hostHasList answer list = record { answer = answer; list = list }
 
--- "Refusals: 11 to 17 for the first sheet; then 21 to 27 likewise for the second": both are writings of well-formed sheets, and their list is told; or the
+-- "Refusals: 11 to 17 for the first sheet; then 21 to 27 likewise for the second": both are writings of well-formed sheets, and their list is told, or 28; or the
 -- first has a first fault; or the first is good and the second has one. A refusal leaves the buffer as it was
 abbrev pub TellsList : List ℕ → List ℕ → List ℕ → Told → Type 0
 TellsList first second lent x =

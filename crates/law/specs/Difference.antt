@@ -9,7 +9,7 @@ use lib.ListN.{length, drop}
 use Rattle.law.specs.Words.{when, Every, Some, InARow, joined, inOctets}
 use Rattle.law.specs.Sheet.{PduType, Region, Parameter, Item, Sheet, linkKind}
 
--- a record of a sheet: its kind, its key as a number, 0 where it has none, and its fields as octets, which joined are its body
+-- a record of a sheet: its kind, its key as a number, and its fields as octets, which joined are its body; a kind without a key (`keyLength`) has 0 there
 pub record Entry : Type 0 where
   pub kind : ℕ
   pub key : ℕ
@@ -46,17 +46,19 @@ entriesOf h =
     ++ (map parameterEntry (h .parameters)
     ++ (map itemEntry (h .items) ++ (map toleranceEntry (h .tolerances) ++ map releaseEntry (h .releases)))))
 
--- "in the order link, regions by start, parameters by number, ID items by code": by the kind, 05 standing in the link record's place, then by the key
-abbrev pub placed : ℕ → ℕ
-placed kind = when (eqb kind 5) 1 kind
+-- "in the order link, regions by start, parameters by number, ID items by code": by the kind, 05 standing in the link record's place, "Later requests' kinds follow the ID
+-- items", then by the key, which is below 2^32
+abbrev pub orderOfKind : ℕ → ℕ
+orderOfKind kind = when (eqb kind 5) 1 kind
 
 unfoldable pub rank : ℕ → ℕ → ℕ
-rank kind key = 4294967296 * placed kind + key
+rank kind key = 4294967296 * orderOfKind kind + key
 
 abbrev pub rankOf : Entry → ℕ
 rankOf e = rank (e .kind) (e .key)
 
--- "gone, new, or changed, with the field": a kind and a key; a record; the changed fields, and the record as it is now
+-- "gone, new, or changed, with the field": a kind and a key; a record; the changed fields, and the record as the
+-- second sheet has it
 pub data Change : Type 0 where
   gone : ℕ → ℕ → Change
   new : Entry → Change
@@ -87,14 +89,15 @@ abbrev pub Has : ℕ → ℕ → List Entry → Type 0
 Has kind key es = Some (λ (e : Entry). (kind ≡ e .kind) × (key ≡ e .key)) es
 
 -- a difference of the records a and b of two sheets: a record of a with no record of its kind and key in b; one of b with none in a; or one of b, and in a one of
--- its kind and key that is another
+-- its kind and key that is another, with the bits of the fields that differ
 unfoldable pub Differs : List Entry → List Entry → Change → Type 0
 Differs a b (gone kind key) = Has kind key a × (Has kind key b → ⊥)
 Differs a b (new y) = In y b × (Has (y .kind) (y .key) a → ⊥)
 Differs a b (changed bits y) =
     In y b × ((x : Entry) × In x a × (x .kind ≡ y .kind) × (x .key ≡ y .key) × ((x ≡ y) → ⊥) × (bits ≡ bitsOf x y))
 
--- the order of differences; "in request 2's list gone then comes before new" (request 7), where kind 01 becomes 05 or back
+-- the order of differences: by their records'. Only a link record of another kind gives two of one rank, and "in request 2's list gone then comes before new"
+-- (request 7)
 unfoldable pub turnOf : Change → ℕ
 turnOf (gone kind key) = 2 * rank kind key
 turnOf (new y) = 2 * rankOf y + 1
@@ -106,7 +109,7 @@ pub record Lists (a b : List Entry) (list : List Change) : Type 0 where
   pub each : (c : Change) → Differs a b c → In c list
   pub in-order : InARow (λ (c d : Change). turnOf c < turnOf d) list
 
--- the octets of a key: start (4), number (2), code (1)
+-- the octets of a key: start (4), number (2), code (1); the other kinds have none
 abbrev pub keyLength : ℕ → ℕ
 keyLength kind = when (eqb kind 2) 4 (when (eqb kind 3) 2 (when (eqb kind 4) 1 0))
 
@@ -132,7 +135,7 @@ abbrev pub toldOf : ℕ → ℕ → List ℕ → Told
 toldOf number place list = record { answer = number + 4294967296 * place; list = list }
 
 -- "then 28, exactly when the list is longer than the lent buffer. These write nothing; octets behind the list stay"; that 0 has the list's length for its place, and
--- 28 the length that is needed, is our own
+-- 28 the length that is needed, is our own, and beside document 01's "Place is 0 except for 11 to 17", which is not of this call
 unfoldable pub listTold : List ℕ → List ℕ → Told
 listTold octets lent =
     when (ltb (length lent) (length octets)) (toldOf 28 (length octets) lent) (toldOf 0 (length octets) (octets ++ drop (length octets) lent))
@@ -142,9 +145,9 @@ unfoldable pub without : ℕ → ℕ → List Entry → List Entry
 without kind key [] = []
 without kind key (e ∷ es) = when (eqb kind (e .kind) && eqb key (e .key)) es (e ∷ without kind key es)
 
-unfoldable pub within : Entry → List Entry → List Entry
-within y [] = y ∷ []
-within y (e ∷ es) = when (ltb (rankOf y) (rankOf e)) (y ∷ e ∷ es) (e ∷ within y es)
+unfoldable pub putIn : Entry → List Entry → List Entry
+putIn y [] = y ∷ []
+putIn y (e ∷ es) = when (ltb (rankOf y) (rankOf e)) (y ∷ e ∷ es) (e ∷ putIn y es)
 
 unfoldable pub instead : Entry → List Entry → List Entry
 instead y [] = []
@@ -152,7 +155,7 @@ instead y (e ∷ es) = when (eqb (y .kind) (e .kind) && eqb (y .key) (e .key)) (
 
 unfoldable pub appliedOne : Change → List Entry → List Entry
 appliedOne (gone kind key) es = without kind key es
-appliedOne (new y) es = within y es
+appliedOne (new y) es = putIn y es
 appliedOne (changed bits y) es = instead y es
 
 unfoldable pub applied : List Change → List Entry → List Entry
