@@ -1,22 +1,18 @@
 -- One turn of the pass: which record it takes, how far it goes, and how much it lists.
-use Prim.Native.Nat.{ℕ, suc, _+_, _-_, _*_, _<_, _≤_}
+use Prim.Native.Nat.{ℕ, _+_, _-_, _<_, _≤_}
 use mathlib.Core.Bool.{Bool, true, false, true≢false}
-use mathlib.Core.List.{List, [], _∷_, _++_}
-use mathlib.Core.Logic.{_⊎_, inl, inr, ⊎-elim}
-use mathlib.Core.Path.{_≡_, refl, sym, ap, ap₂, subst, _∙_}
+use mathlib.Core.List.{List}
+use mathlib.Core.Logic.{_⊎_, ⊎-elim}
+use mathlib.Core.Path.{_≡_, sym, ap, subst, _∙_}
 use native.Mathlib.Omega.{arith}
-use borrow.Author.Tests.{lt-ltb, le-ltb, eq-eqb}
-use lib.Dec.{eqb, ltb}
 use lib.ListN.{length, length-append}
 use Rattle.octets.proofs.Cases.{lt-or-le, eq-or-ne}
-use Rattle.octets.proofs.Pick.{pick-lt, pick-ge, pick-no, pick-both}
+use Rattle.octets.proofs.Pick.{pick-lt, pick-ge, pick-both}
 use Rattle.difference.specs.Records.{kindAt, sizeAt, rankAt, keyWidth, bitsAt}
-use Rattle.difference.specs.Laid.{laid}
-use Rattle.difference.specs.Merge.{goneOf, newOf, changedOf, bothOf, Step, step, stepOf, atEnd, turns, mergeOf}
-use Rattle.difference.specs.Entered.{Entered, entered, enters, Turned, turned, turnsTo}
+use Rattle.difference.specs.Merge.{goneOf, newOf, changedOf, bothOf, Step, step, stepOf, atEnd}
+use Rattle.difference.specs.Entered.{Entered, entered, enters, turned, turnsTo}
 use Rattle.difference.specs.declared.merging.Turn.{Turn}
 use Rattle.difference.proofs.Bounds.{Octets, cut-length, key-most, size-least, size-most, rank-end, rank-under, rank-most, inside}
-use Rattle.difference.proofs.Laid.{laid-on}
 
 abbrev pub placesOf : ℕ → ℕ → ℕ → Turn
 placesOf first second list = record { first = first; second = second; list = list }

@@ -1,8 +1,6 @@
 // What is listed of a record: each tells the place behind it.
 ghost use mathlib.Core.Path.{_≡_};
 ghost use Prim.Native.Nat.{_+_, _≤_};
-ghost use lib.ListN.{length};
-ghost use Rattle.difference.specs.Laid.{laid};
 ghost use Rattle.difference.specs.Merge.{goneOf, newOf, changedOf, bothOf};
 ghost use Rattle.difference.specs.Entered.{entered, enters};
 

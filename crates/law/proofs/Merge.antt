@@ -1,5 +1,5 @@
 -- The differences of two rising lists of records by one pass over both, as the code makes it; and what the proofs about it ask of the records.
-use Prim.Native.Nat.{ℕ, _<_}
+use Prim.Native.Nat.{_<_}
 use mathlib.Core.List.{List, [], _∷_, _++_, map}
 use mathlib.Core.Path.{_≡_}
 use lib.Dec.{eqb, ltb}

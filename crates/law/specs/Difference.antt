@@ -1,13 +1,13 @@
 -- Document 02, request 2: "a tool that lists each difference of two sheets once, in the order link, regions by start, parameters by number, ID items by code:
 -- gone, new, or changed, with the field".
-use Prim.Native.Nat.{ℕ, zero, suc, _+_, _*_, _<_}
+use Prim.Native.Nat.{ℕ, _+_, _*_, _<_}
 use mathlib.Core.Bool.{Bool, true, false, _&&_}
 use mathlib.Core.List.{List, [], _∷_, _++_, map}
 use mathlib.Core.Path.{_≡_}
 use lib.Dec.{eqb, ltb}
 use lib.ListN.{length, drop}
-use Rattle.law.specs.Words.{when, Every, Some, InARow, joined, inOctets}
-use Rattle.law.specs.Sheet.{PduType, Region, Parameter, Item, Sheet, linkKind}
+use Rattle.law.specs.Words.{when, Some, InARow, joined, inOctets}
+use Rattle.law.specs.Sheet.{Region, Parameter, Item, Sheet, linkKind}
 
 -- a record of a sheet: its kind, its key as a number, and its fields as octets, which joined are its body; a kind without a key (`keyLength`) has 0 there
 pub record Entry : Type 0 where

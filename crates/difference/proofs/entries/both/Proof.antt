@@ -1,9 +1,7 @@
 -- `difference::entries::both` meets its contract.
-use Prim.Native.Nat.{ℕ}
-use mathlib.Core.Path.{sym, ap, _∙_}
+use mathlib.Core.Path.{ap, _∙_}
 use native.Mathlib.Omega.{arith}
 use borrow.Author.Needs.{needs}
-use lib.ListN.{length}
 use Rattle.difference.specs.Entered.{Entered, enters}
 use Rattle.difference.proofs.Entered.{entered-on, both-one, both-two}
 use Rattle.difference.proofs.Steps.{gone-most}

@@ -1,7 +1,7 @@
 -- `difference::laying::lay_part` meets its contract: k octets are laid, and the rest would be laid behind them.
 use Prim.Native.Nat.{ℕ, _+_, _≤_, _-_}
 use mathlib.Core.List.{List}
-use mathlib.Core.Path.{_≡_, refl, sym, ap, ap₂, _∙_}
+use mathlib.Core.Path.{_≡_, refl, sym, ap, _∙_}
 use native.Mathlib.Omega.{arith}
 use borrow.Author.Needs.{needs}
 use lib.ListN.{length}

@@ -1,14 +1,11 @@
 -- `difference::merging::merge` meets its contract: between two turns the pass stands as `Left` says.
 use Prim.Native.Nat.{_+_, _-_}
 use mathlib.Core.Bool.{Bool, true, false, not, true≢false}
-use mathlib.Core.Path.{_≡_, refl, sym, ap, _∙_}
+use mathlib.Core.Path.{_≡_, refl, sym, _∙_}
 use native.Mathlib.Omega.{arith}
 use borrow.Author.Needs.{needs}
-use lib.ListN.{length, getD}
-use Rattle.difference.specs.Merge.{stepOf, atEnd}
-use Rattle.difference.specs.Entered.{Turned, turnsTo}
+use lib.ListN.{length}
 use Rattle.difference.proofs.Passes.{Left, left-first, left-next, left-less, left-last}
-use Rattle.difference.proofs.Steps.{goes}
 use Rattle.difference.proofs.merging.merge.Statement.{statement}
 use Rattle.difference.proofs.merging.merge.Tie as tie
 

@@ -1,12 +1,11 @@
 -- `difference::merging::take_turn` meets its contract, for the record that comes first, and for two at one place.
 use Prim.Native.Nat.{ℕ, _+_, _<_, _≤_}
 use mathlib.Core.List.{List}
-use mathlib.Core.Path.{_≡_, sym, ap, ap₂, subst, _∙_}
+use mathlib.Core.Path.{_≡_, sym, ap, ap₂, _∙_}
 use native.Mathlib.Omega.{arith}
 use borrow.Author.Needs.{needs}
 use Rattle.sheet.specs.Kinds.{sizeOf}
-use Rattle.difference.specs.Records.{kindAt, sizeAt, rankAt}
-use Rattle.difference.specs.Merge.{Step, step}
+use Rattle.difference.specs.Records.{kindAt, sizeAt}
 use Rattle.difference.specs.Entered.{turned, turnsTo}
 use Rattle.difference.proofs.Bounds.{size-most}
 use Rattle.difference.proofs.Steps.{placesOf, turned-by, step-gone, step-new, step-both}

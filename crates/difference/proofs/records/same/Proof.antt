@@ -1,5 +1,5 @@
 -- `difference::records::same` meets its contract: what was found so far, and the rest, decide together.
-use Prim.Native.Nat.{ℕ, _+_, _≤_, _-_}
+use Prim.Native.Nat.{_+_, _≤_, _-_}
 use mathlib.Core.Bool.{Bool, _&&_, and-assoc, and-true}
 use mathlib.Core.Path.{_≡_, sym, ap, ap₂, _∙_}
 use native.Mathlib.Omega.{arith}
