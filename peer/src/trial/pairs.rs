@@ -13,17 +13,14 @@ use super::rig::Rig;
 /// A list up to this length is cut at every one.
 const SHORT_LIST: usize = 24;
 
-/// A few pairs of this sheet and another one, either being the first.
-pub fn compare_pairs(rig: &mut Rig, random: &mut Random, plan: &Plan) -> Outcome {
-    for _ in 0..3 {
-        let mut pair = [plan.clone(), other_plan(random, plan)];
-        if random.chance(50) {
-            pair.swap(0, 1);
-        }
-        lend_pair(rig, random, &pair);
-        lists_of_lengths(rig, random)?;
+/// This sheet and another one, either being the first.
+pub fn compare_pair(rig: &mut Rig, random: &mut Random, plan: &Plan) -> Outcome {
+    let mut pair = [plan.clone(), other_plan(random, plan)];
+    if random.chance(50) {
+        pair.swap(0, 1);
     }
-    Ok(())
+    lend_pair(rig, random, &pair);
+    lists_of_lengths(rig, random)
 }
 
 /// Equal, with one field changed, with records gone or come, changed all over, or another one altogether.
@@ -132,10 +129,10 @@ mod tests {
     #[test]
     fn pairs_reach_every_entry_number_and_buffer() {
         let mut rig = Rig::new(PEER);
-        for seed in 0..1500 {
+        for seed in 0..3000 {
             let mut random = Random::new(seed);
             let plan = random_plan(&mut random);
-            let outcome = compare_pairs(&mut rig, &mut random, &plan);
+            let outcome = compare_pair(&mut rig, &mut random, &plan);
             assert_eq!(outcome.err().map(|found| found.to_string()), None);
         }
         let gaps = rig.tally.gaps().into_iter();

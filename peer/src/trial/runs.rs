@@ -4,7 +4,7 @@ use super::call::Call;
 use super::commands::random_command;
 use super::damage::damaged_sheet;
 use super::layout::random_plan;
-use super::pairs::compare_pairs;
+use super::pairs::compare_pair;
 use super::plan::Plan;
 use super::probe::{judge_sheet_briefly, Outcome};
 use super::random::Random;
@@ -47,7 +47,7 @@ pub fn run_sequence(rig: &mut Rig, seed: u64, sequence: u64) -> Outcome {
         let sheet = damaged_sheet(&mut random, &plan);
         judge_sheet_briefly(rig, &sheet)?;
     }
-    compare_pairs(rig, &mut random, &plan)
+    compare_pair(rig, &mut random, &plan)
 }
 
 /// By reset and enable, by turning an old record, or any valid state at once.
