@@ -1,4 +1,4 @@
--- Request 2: what its call leaves for two good sheets, and that a refused one writes nothing.
+-- Request 2: what its call leaves for two good sheets, that a refused one writes nothing, and which fault it tells.
 use mathlib.Core.List.{List, _++_}
 use mathlib.Core.Logic.{⊎-elim}
 use mathlib.Core.Path.{_≡_, refl, sym, ap, _∙_}
@@ -8,13 +8,21 @@ use lib.ListN.{length, getD, drop, length-append, length-drop, List·getD-append
 use lib.Seq.{getD-append-add, getD-drop}
 use Rattle.octets.proofs.Cases.{lt-or-le}
 use Rattle.octets.proofs.Pick.{pick-lt, pick-ge, pick-both}
-use Rattle.difference.specs.Difference.{Listed, listed, enteredOf, differenceOf}
+use Rattle.difference.specs.Difference.{Listed, listed, secondAnswer, enteredOf, differenceOf}
+use Rattle.sheet.specs.Faults.{numberOf}
 use Rattle.sheet.specs.Walk.{verdictOf}
-use Rattle.slave.specs.Answers.{told}
+use Rattle.sheet.specs.declared.records.Fault.{Fault}
+use Rattle.sheet.specs.declared.walk.Layout.{Layout}
+use Rattle.sheet.specs.declared.walk.Verdict.{Verdict}
+use Rattle.sheet.specs.declared.walk.Verdict.the-variants.{Valid, Faulty}
+use Rattle.slave.specs.Answers.{told, sheetAnswer}
+use Rattle.slave.proofs.Order.{on-faulty, on-valid}
 use Rattle.law.specs.Sheet.{Sheet, WellFormed, sheetOctets}
 use Rattle.law.specs.Difference.{Change, entriesOf, Lists, listOctets}
+use Rattle.law.proofs.Complete.{complete}
+use Rattle.law.proofs.Numbered.{fault-is}
 use Rattle.law.proofs.Told.{is-merge, both-entered}
-use Rattle.demands.specs.Changed.{TheCallTellsIt, RefusedWritesNothing}
+use Rattle.demands.specs.Changed.{TheCallTellsIt, RefusedWritesNothing, RefusalsInOrder}
 use Rattle.demands.proofs.Refusals.{by-sheet}
 
 -- octets in a buffer that is too short, or not
@@ -89,3 +97,28 @@ refused-writes-nothing first second lent =
     (λ lay v.
     by-sheet (Unwritten lent) (verdictOf second) _ _ (λ fault place n. refl)
     (λ lay v. pick-both (Unwritten lent) _ (λ n. refl) (λ n. absurd (n refl))))
+
+-- a sheet at fault: the fault and its place, ten higher where the first is good
+module _ (first second lent : List ℕ) (f : Fault) (place : ℕ) where
+  first-refused : verdictOf first ≡ Faulty f place → differenceOf first second lent ≡ listed (told (numberOf f) place) lent
+  unfolding differenceOf sheetAnswer
+  first-refused e =
+      on-faulty _ f place _ _ e ∙ ap (λ (v : Verdict). listed (sheetAnswer v) lent) e
+
+  second-refused : (u : Layout) → verdictOf first ≡ Valid u → verdictOf second ≡ Faulty f place
+      → differenceOf first second lent ≡ listed (told (numberOf f + 10) place) lent
+  unfolding differenceOf sheetAnswer
+  second-refused u p e =
+      on-valid _ u _ _ p ∙ on-faulty _ f place _ _ e ∙ ap (λ (v : Verdict). listed (secondAnswer (sheetAnswer v)) lent) e
+
+pub refusals-in-order : RefusalsInOrder
+refusals-in-order = record {
+  the-first-sheet = λ first second lent o f place y.
+      let k = fault-is first f place o y in
+      let e = first-refused first second lent (k .0) place (k .2) in
+      (ap (λ (l : Listed). l .answer .number) e ∙ k .1, ap (λ (l : Listed). l .answer .place) e);
+  then-the-second = λ a v second lent o f place y.
+      let k = fault-is second f place o y in
+      let e = second-refused (sheetOctets a) second lent (k .0) place _ (complete a v) (k .2) in
+      (ap (λ (l : Listed). l .answer .number) e ∙ ap (λ (n : ℕ). n + 10) (k .1), ap (λ (l : Listed). l .answer .place) e);
+}
