@@ -1,100 +1,40 @@
--- Request 2's case of our own: both sheets are good, and their list computes.
-use mathlib.Core.List.{List, _++_}
-use mathlib.Core.Logic.{inl, inr}
+-- Request 2's cases of our own: both sheets of each are good, and their list computes.
+use mathlib.Core.List.{List, _++_, append-nil}
 use mathlib.Core.Path.{_≡_, refl, ap, _∙_}
-use Prim.Native.Nat.{ℕ, _+_, _≤_, _<_}
+use Prim.Native.Nat.{ℕ, _≤_}
 use native.Mathlib.Omega.{arith}
 use lib.ListN.{length, drop, drop-of-length-le}
 use Rattle.difference.specs.Difference.{Listed, listed, enteredOf, differenceOf}
 use Rattle.slave.specs.Answers.{told}
 use Rattle.law.specs.Words.{when}
-use Rattle.law.specs.Sheet.{WellFormed, sheetOctets}
+use Rattle.law.specs.Sheet.{Sheet, WellFormed, sheetOctets}
 use Rattle.law.specs.Difference.{entriesOf, listOctets, rank, same, bitsFrom, changeOctets}
 use Rattle.law.proofs.Merge.{both, beside, merge}
 use Rattle.law.proofs.Told.{both-entered}
-use Rattle.demands.specs.Changed.{firstShown, secondShown, listShown, Shown}
+use Rattle.demands.specs.ChangedShown.{sheetA, sheetB, sheetC, sheetD, sheetE, sheetF, listAB, listBA, listCD, listDC, listEF, Shown}
 use Rattle.demands.proofs.ChangedCall.{long-enough}
-
-first-good : WellFormed firstShown
-first-good = record {
-  l = inr (inl refl);
-  version = omega arith;
-  profile = omega arith;
-  regions = (omega arith, (omega arith, tt));
-  parameters = (
-    record {
-      number = omega arith;
-      address = omega arith;
-      least = omega arith;
-      most = omega arith;
-      spans = λ (a : ℕ) (l : 0x1002 ≤ a) (u : a < 0x1002 + 2). inl (omega arith, omega arith);
-    },
-    tt,
-  );
-  items = (record { code = omega arith; least = omega arith; most = omega arith; all32 = refl; octets = omega arith; zeros = omega arith }, tt);
-  apart = (omega arith, tt);
-  numbers-rise = tt;
-  codes-rise = tt;
-  few-regions = (omega arith, omega arith);
-  few-parameters = omega arith;
-  few-items = omega arith;
-  tolerances = (omega arith, tt);
-  once = omega arith;
-  releases = tt;
-  picked-once = omega arith;
-}
-
-second-good : WellFormed secondShown
-second-good = record {
-  l = refl;
-  version = omega arith;
-  profile = omega arith;
-  regions = (omega arith, (omega arith, tt));
-  parameters = (
-    record {
-      number = omega arith;
-      address = omega arith;
-      least = omega arith;
-      most = omega arith;
-      spans = λ (a : ℕ) (l : 0x1000 ≤ a) (u : a < 0x1000 + 1). inl (omega arith, omega arith);
-    },
-    (
-      record {
-        number = omega arith;
-        address = omega arith;
-        least = omega arith;
-        most = omega arith;
-        spans = λ (a : ℕ) (l : 0x1000 ≤ a) (u : a < 0x1000 + 2). inl (omega arith, omega arith);
-      },
-      tt,
-    ),
-  );
-  items = tt;
-  apart = (omega arith, tt);
-  numbers-rise = (omega arith, tt);
-  codes-rise = tt;
-  few-regions = (omega arith, omega arith);
-  few-parameters = omega arith;
-  few-items = omega arith;
-  tolerances = (omega arith, tt);
-  once = omega arith;
-  releases = ((omega arith, omega arith), tt);
-  picked-once = omega arith;
-}
-
-list-shown : listOctets (merge (entriesOf firstShown) (entriesOf secondShown)) ≡ listShown
-unfolding entriesOf rank same bitsFrom changeOctets both beside merge when
-list-shown = refl
+use Rattle.demands.proofs.ChangedSheets.{goodA, goodB, goodC, goodD, goodE, goodF}
 
 -- a buffer of the list's length has nothing behind it
-pub shown : Shown
-shown lent e =
-    let all : length listShown ≤ length lent = omega arith in
-    let none : length lent ≤ 55 = omega arith in
-    let called : differenceOf (sheetOctets firstShown) (sheetOctets secondShown) lent ≡ listed (told 0 55) (listShown ++ drop 55 lent) =
-    both-entered (sheetOctets firstShown) (sheetOctets secondShown) lent firstShown secondShown first-good second-good refl refl
-    ∙ ap (λ (os : List ℕ). enteredOf os lent) list-shown
-    ∙ long-enough listShown lent all in (
+case : (a b : Sheet) (list : List ℕ) → WellFormed a → WellFormed b → listOctets (merge (entriesOf a) (entriesOf b)) ≡ list
+    → (lent : List ℕ) → length lent ≡ length list
+    → (differenceOf (sheetOctets a) (sheetOctets b) lent .answer .number ≡ 0) × (differenceOf (sheetOctets a) (sheetOctets b) lent .list ≡ list)
+case a b list v w os lent e =
+    let n = length list in
+    let all : n ≤ length lent = omega arith in
+    let none : length lent ≤ n = omega arith in
+    let called : differenceOf (sheetOctets a) (sheetOctets b) lent ≡ listed (told 0 n) (list ++ drop n lent) =
+    both-entered (sheetOctets a) (sheetOctets b) lent a b v w refl refl ∙ ap (λ (o : List ℕ). enteredOf o lent) os ∙ long-enough list lent all in (
       ap (λ (l : Listed). l .answer .number) called,
-      ap (λ (l : Listed). l .list) called ∙ ap (λ (o : List ℕ). listShown ++ o) (drop-of-length-le lent none),
+      ap (λ (l : Listed). l .list) called ∙ ap (λ (o : List ℕ). list ++ o) (drop-of-length-le lent none) ∙ append-nil list,
     )
+
+pub shown : Shown
+unfolding entriesOf rank same bitsFrom changeOctets both beside merge when
+shown = (
+  case sheetA sheetB listAB goodA goodB refl,
+  (
+    case sheetB sheetA listBA goodB goodA refl,
+    (case sheetC sheetD listCD goodC goodD refl, (case sheetD sheetC listDC goodD goodC refl, (case sheetE sheetF listEF goodE goodF refl, tt))),
+  ),
+)

@@ -39,6 +39,7 @@ pub mod Cut
 pub mod Unique
 pub mod Changed
 pub mod ChangedCall
+pub mod ChangedSheets
 pub mod ChangedShown
 pub mod Reached
 pub mod Playing
