@@ -7,7 +7,9 @@ use Rattle.demands.proofs.Alone.{refuses-all-keeps-secrets, single-repl
 use Rattle.demands.proofs.Bench.{sheet-p-is-valid, bench-cases}
 use Rattle.demands.proofs.Changed.{one-list, empty-exactly-if-equal, applied-gives-second, read-one-way}
 use Rattle.demands.proofs.Changed.{one-for-a-record, unchanged-is-not-listed, bits-are-fields}
-use Rattle.demands.proofs.ChangedCall.{the-call-tells-it, refused-writes-nothing}
+use Rattle.demands.proofs.ChangedCall.{the-call-tells-it, refused-writes-nothing, refusals-in-order}
+use Rattle.demands.proofs.ChangedOctets.{list-is-octets}
+use Rattle.demands.proofs.ChangedOrder.{once-and-in-order}
 use Rattle.demands.proofs.ChangedShown.{shown}
 use Rattle.demands.proofs.Cut.{cut-in-two}
 use Rattle.demands.proofs.CutWhole.{forms-join, replay-cut-in-two}
@@ -80,14 +82,17 @@ request-1 = record { the-identity-comes-back = identity-comes-back; control-is-i
 pub request-2 : Request2
 request-2 = record {
   one-list = one-list;
+  once-and-in-order = once-and-in-order;
   one-for-a-record = one-for-a-record;
   unchanged-is-not-listed = unchanged-is-not-listed;
   bits-are-fields = bits-are-fields;
   empty-exactly-if-equal = empty-exactly-if-equal;
   applied-gives-the-second = applied-gives-second;
   octets-are-read-one-way = read-one-way;
+  the-list-is-octets = list-is-octets;
   the-call-tells-it = the-call-tells-it;
   a-refused-one-writes-nothing = refused-writes-nothing;
+  refusals-in-order = refusals-in-order;
   shown = shown;
 }
 

@@ -39,6 +39,8 @@ pub mod Cut
 pub mod Unique
 pub mod Changed
 pub mod ChangedCall
+pub mod ChangedOrder
+pub mod ChangedOctets
 pub mod ChangedSheets
 pub mod ChangedShown
 pub mod Reached

@@ -11,7 +11,7 @@ both : (xs t : List ℕ) → Every IsOctet xs → Every IsOctet t → Every IsOc
 both [] t o u = u
 both (x ∷ xs) t o u = (o .0, both xs t (o .1) u)
 
-all : {A : Type 0} (f : A → List ℕ) (Good : A → Type 0) → ((x : A) → Good x → Every IsOctet (f x)) → (xs : List A) → Every Good xs → Every IsOctet (joined f xs)
+pub all : {A : Type 0} (f : A → List ℕ) (Good : A → Type 0) → ((x : A) → Good x → Every IsOctet (f x)) → (xs : List A) → Every Good xs → Every IsOctet (joined f xs)
 all f Good one [] g = tt
 all f Good one (x ∷ xs) g = both (f x) (joined f xs) (one x (g .0)) (all f Good one xs (g .1))
 

@@ -60,7 +60,7 @@ record-once x y s t g h k e =
     (λ i. record { kind = k i; key = key i; fields = f .0 i }, f .1)
 
 -- a change whose kind and key, or whose record, are good
-unfoldable GoodChange : Change → Type 0
+unfoldable pub GoodChange : Change → Type 0
 GoodChange (gone kind key) = GoodKey kind key
 GoodChange (new y) = GoodEntry y
 GoodChange (changed bits y) = GoodEntry y
@@ -119,11 +119,11 @@ differs-good a b p q (gone kind key) d = known-in kind key a p (d .0)
 differs-good a b p q (new y) d = every-in GoodEntry y b q (d .0)
 differs-good a b p q (changed bits y) d = every-in GoodEntry y b q (d .0)
 
-every-of : {A : Type 0} (P : A → Type 0) (l : List A) → ((x : A) → In x l → P x) → Every P l
+pub every-of : {A : Type 0} (P : A → Type 0) (l : List A) → ((x : A) → In x l → P x) → Every P l
 every-of P [] all = tt
 every-of P (x ∷ l) all = (all x (inl refl), every-of P l (λ y i. all y (inr i)))
 
-listed-good : (a b : Sheet) → WellFormed a → WellFormed b → (l : List Change) → Lists (entriesOf a) (entriesOf b) l → Every GoodChange l
+pub listed-good : (a b : Sheet) → WellFormed a → WellFormed b → (l : List Change) → Lists (entriesOf a) (entriesOf b) l → Every GoodChange l
 listed-good a b v w l p =
     every-of GoodChange l (λ c i. differs-good (entriesOf a) (entriesOf b) (entries-good a v) (entries-good b w) c (p .only c i))
 
