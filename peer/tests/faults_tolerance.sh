@@ -39,10 +39,10 @@ behind() {
 }
 
 group "tolerance record"
-chosen "a tolerance of 4" engine/sheet.rs 's/TOLERANCE_LIMIT: u8 = 3/TOLERANCE_LIMIT: u8 = 4/'
+fault "a tolerance of 4" engine/sheet.rs 's/TOLERANCE_LIMIT: u8 = 3/TOLERANCE_LIMIT: u8 = 4/'
 fault "a tolerance of 3 refused" engine/sheet.rs 's/TOLERANCE_LIMIT: u8 = 3/TOLERANCE_LIMIT: u8 = 2/'
 fault "a tolerance of 0 refused" engine/sheet.rs 's/failures > TOLERANCE_LIMIT/failures == 0 || &/'
-fault "a tolerance of 255 taken" engine/sheet.rs 's/failures > TOLERANCE_LIMIT/failures != 255 \&\& &/'
+chosen "a tolerance of 255 taken" engine/sheet.rs 's/failures > TOLERANCE_LIMIT/failures != 255 \&\& &/'
 fault "two bits of a tolerance looked at" engine/sheet.rs 's/self.take_tolerance(record\[1\])/self.take_tolerance(record[1] \& 3)/'
 fault "a tolerance's range told as too much" engine/sheet.rs '/fn take_tolerance/,/^    }/s/answer::RANGE/answer::TOO_MUCH/'
 chosen "two tolerances" engine/kind.rs "$(may_follow Tolerance)"
