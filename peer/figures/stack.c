@@ -26,10 +26,6 @@ static const struct size sizes[] = {
 };
 #define SIZES (sizeof sizes / sizeof sizes[0])
 
-/* Not in every header that this is built with. */
-uint64_t t24_difference(const uint8_t *, size_t, const uint8_t *, size_t,
-                        uint8_t *, size_t);
-
 static struct built sheet, second;
 static uint8_t list[4096];
 static uint8_t state[T24_STATE_LEN], memory[T24_MEMORY_MAX];
