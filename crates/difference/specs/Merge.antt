@@ -49,6 +49,6 @@ turns zero a i b j = []
 turns (suc f) a i b j =
     pick (atEnd a i b j) [] (stepOf a i b j .octets ++ turns f a (stepOf a i b j .first) b (stepOf a i b j .second))
 
--- the whole list: there is a record for each turn, so that there are not more turns than octets
+-- the whole list: each turn passes a record of one sheet at least, so that there are not more turns than octets
 unfoldable pub mergeOf : List ℕ → List ℕ → List ℕ
 mergeOf a b = turns (suc (length a + length b)) a 0 b 0

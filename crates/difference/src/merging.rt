@@ -44,7 +44,7 @@ fn take_turn(list: &mut [u8], at: usize, first: &[u8], i: usize, second: &[u8], 
     }
 }
 
-// Whether a sheet has a record at a place.
+// Whether either sheet has a record left.
 fn more(first: &[u8], i: usize, second: &[u8], j: usize) -> bool
     ensures { λ r. ⌜ r ≡ not (atEnd (now (first .entry)) i (now (second .entry)) j) ⌝ }
 {
