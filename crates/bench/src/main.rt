@@ -1,4 +1,6 @@
 // The bench program of document 01, on sheet P and its two commands.
+#![tactic(auto)]
+
 fn main() {
     station::run();
 }

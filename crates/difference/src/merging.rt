@@ -4,7 +4,7 @@ ghost use Rattle.difference.specs.Merge.{step_of, at_end, merge_of};
 ghost use Rattle.difference.specs.Entered.{entered, enters, turned, turns_to};
 
 // The places behind a turn: in the first sheet, in the second, and in the list.
-#[derive(Drop)]
+#[derive(Clone, Copy)]
 pub struct Turn {
     pub first: usize,
     pub second: usize,

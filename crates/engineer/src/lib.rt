@@ -1,4 +1,6 @@
 // The process engineer's programs: a sheet in words, record by record, and what changed between two sheets.
+#![tactic(auto)]
+
 pub mod compare; // compare.rt: what changed between the sheets of two files
 pub mod dump; // dump.rt: a whole sheet in words
 mod changes; // changes.rt: a list of differences in words

@@ -1,4 +1,6 @@
 // Files by the program's arguments, or by default names where an argument is left out.
+#![tactic(auto)]
+
 ghost use Rattle.io.specs.Counts.{IsPrefixLen};
 
 use libc::STDOUT_FILENO;

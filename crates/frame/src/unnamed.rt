@@ -12,7 +12,7 @@ use machine::words::Carrier;
 use sheet::walk::Form;
 
 // Octets of a command: the first, and how many.
-#[derive(Drop)]
+#[derive(Clone, Copy)]
 pub struct Run {
     pub first: usize,
     pub many: usize,

@@ -1,4 +1,6 @@
 // Octets as upper-case hex on the standard output, for the programs.
+#![tactic(auto)]
+
 ghost use Rattle.std.specs.Prelude.{◌≤◌, length};
 
 use libc::STDOUT_FILENO;

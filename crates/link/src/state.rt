@@ -11,7 +11,7 @@ pub const ASYNC_CONNECTED: u8 = 2;
 pub const SYNC_CONNECTED: u8 = 3;
 
 // The watchdog's fields: whether MN is known, the last MN, RSN, and how many exchanges in a row failed it.
-#[derive(Drop)]
+#[derive(Clone, Copy)]
 pub struct Watch {
     pub known: u8,
     pub last: u8,
@@ -20,13 +20,13 @@ pub struct Watch {
 }
 
 // The two latched alarms.
-#[derive(Drop)]
+#[derive(Clone, Copy)]
 pub struct Latches {
     pub command: u8,
     pub communication: u8,
 }
 
-#[derive(Drop)]
+#[derive(Clone, Copy)]
 pub struct LinkState {
     pub link: u8,
     pub l: u8,

@@ -7,7 +7,7 @@ use crate::state::{Latches, LinkState, Watch};
 pub const STATE_LENGTH: usize = 11;
 
 // A valid state, or none: the record has another length or kind, or its fields are not valid.
-#[derive(Drop)]
+#[derive(Clone, Copy)]
 pub enum Stored {
     State(LinkState),
     Invalid,

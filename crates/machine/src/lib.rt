@@ -1,4 +1,6 @@
 // The machine: a sheet, a link state and a command by value give an outcome. No octet of a PDU is known here.
+#![tactic(auto)]
+
 pub mod codes; // codes.rt: the command codes, and which link allows which
 pub mod connecting; // connecting.rt: the data checks of CONNECT
 pub mod judging; // judging.rt: checks 2 to 5, command by command

@@ -2,7 +2,7 @@
 use link::state::LinkState;
 
 // The fields of a command. Each command names the fields it has; `frame` knows at which octets they stand, and gives 0 for one that a type lacks.
-#[derive(Drop)]
+#[derive(Clone, Copy)]
 pub struct Command {
     pub code: u8,
     pub wdt: u8,
@@ -22,7 +22,7 @@ pub struct Command {
 }
 
 // Which command moves data: the parameter commands or the memory commands.
-#[derive(Drop)]
+#[derive(Clone, Copy)]
 pub enum Carrier {
     Parameter,
     Memory,
@@ -30,7 +30,7 @@ pub enum Carrier {
 
 // What an exchange does beside the state: octets read from or written to memory at a place, octets of an ID item at a place of the sheet,
 // the two latches as they were, the connection's fields, or nothing.
-#[derive(Drop)]
+#[derive(Clone, Copy)]
 pub enum Effect {
     Quiet,
     Reads(Carrier, u32, u8),
@@ -42,7 +42,7 @@ pub enum Effect {
 
 // What a refusal is about: the field whose check failed, the octet that should be zero, or the octet of the span that lacks the right, by how many octets
 // come before it; the whole command where its code, its link or L is at fault. `frame` knows at which octets the fields begin.
-#[derive(Drop)]
+#[derive(Clone, Copy)]
 pub enum Field {
     Whole,
     Number,
@@ -61,14 +61,14 @@ pub enum Field {
 }
 
 // What checks 2 to 5 say: an alarm with what it is about, or what is executed with the state that it leaves.
-#[derive(Drop)]
+#[derive(Clone, Copy)]
 pub enum Judgement {
     Refused(u8, Field),
     Accepted(Effect, LinkState),
 }
 
 // What an exchange comes to: this command's alarm and what it is about, what is done, and the next state.
-#[derive(Drop)]
+#[derive(Clone, Copy)]
 pub struct Outcome {
     pub alarm: u8,
     pub field: Field,

@@ -1,4 +1,6 @@
 // Octets and the numbers made of them: the one place where octets of a lent slice become numbers, and where lent parts are filled.
+#![tactic(auto)]
+
 ghost use Rattle.std.specs.Prelude.{◌≡◌, ◌+◌, ◌≤◌, length, get_or, replicate};
 ghost use Rattle.octets.specs.Numbers.{le2, le4, le4_at};
 ghost use Rattle.octets.specs.Parts.{copied, put_at, all_zero};

@@ -1,12 +1,14 @@
 // The regions of a sheet, read where the caller holds the sheet: nothing is copied, and nothing here knows any other record.
 // A virtual address is a u32, or a u64 where one past the last address must not wrap; a place is an index into the memory.
+#![tactic(auto)]
+
 pub mod search; // search.rt: one octet's place and rights, and the searches over a span
 
 ghost use Rattle.std.specs.Prelude.{◌≡◌, ◌+◌, ◌≤◌, length};
 ghost use Rattle.regions.specs.Region.{region_from, gives_of};
 
 // What a region record says behind its kind octet.
-#[derive(Drop)]
+#[derive(Clone, Copy)]
 pub struct Region {
     pub start: u32,
     pub length: u32,
@@ -14,7 +16,7 @@ pub struct Region {
 }
 
 // What can be asked of an octet: that a region has it at all, and the three rights.
-#[derive(Drop)]
+#[derive(Clone, Copy)]
 pub enum Right {
     Mapped,
     Read,

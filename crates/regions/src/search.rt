@@ -48,7 +48,7 @@ fn denies(region: Region, right: Right, address: u64) -> bool
 
 // What the search for a right tells of a span: how many of its octets come before the first that lacks the right, and the memory place of its first octet,
 // 0 where one lacks it.
-#[derive(Drop)]
+#[derive(Clone, Copy)]
 pub struct Reach {
     pub before: u8,
     pub place: u32,

@@ -3,7 +3,7 @@ ghost use Rattle.std.specs.Prelude.{◌≡◌, ◌+◌, ◌≤◌, length, drop}
 ghost use Rattle.replay.specs.Trace.{kind_length, record_size, fault_of, record_at, command_at, reply_at};
 
 // What stands at a place of a trace: nothing any more, a whole record, or a fault's number.
-#[derive(Drop)]
+#[derive(Clone, Copy)]
 pub enum Record {
     End,
     Whole,

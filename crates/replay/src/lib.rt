@@ -1,4 +1,6 @@
 // The replay of a fitter's trace (document 02, request 6).
+#![tactic(auto)]
+
 pub mod form; // form.rt: what stands at a place of a trace
 pub mod reader; // reader.rt: a trace and a place in it, which hands out one record at a time
 pub mod numbers; // numbers.rt: the numbers of a replay

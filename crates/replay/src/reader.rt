@@ -6,7 +6,7 @@ ghost use Rattle.replay.specs.Trace.{record_size, record_at, command_at, reply_a
 use crate::form::Record;
 
 // A trace and a place in it.
-#[derive(Drop)]
+#[derive(Clone, Copy)]
 pub struct Reader<'a> {
     pub trace: &'a [u8],
     pub at: usize,

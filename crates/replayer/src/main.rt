@@ -1,4 +1,6 @@
 // The fitter's program on sheet P and a trace in which every reply agrees.
+#![tactic(auto)]
+
 fn main() {
     fitter::run();
 }

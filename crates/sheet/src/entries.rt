@@ -3,7 +3,7 @@ ghost use Rattle.std.specs.Prelude.{◌≡◌, ◌+◌, ◌-◌, ◌*◌, ◌≤
 ghost use Rattle.sheet.specs.Entries.{parameter_from, parameter_at, item_from, item_at, parameters_of, items_of, sought_parameter, sought_item};
 
 // What a parameter record says behind its kind octet.
-#[derive(Drop)]
+#[derive(Clone, Copy)]
 pub struct Parameter {
     pub number: u16,
     pub address: u32,
@@ -11,20 +11,20 @@ pub struct Parameter {
 }
 
 // What an ID item record says: its code, its length, and the place in the sheet of its first octet.
-#[derive(Drop)]
+#[derive(Clone, Copy)]
 pub struct Item {
     pub code: u8,
     pub length: u8,
     pub at: u16,
 }
 
-#[derive(Drop)]
+#[derive(Clone, Copy)]
 pub enum SoughtParameter {
     Found(Parameter),
     Missing,
 }
 
-#[derive(Drop)]
+#[derive(Clone, Copy)]
 pub enum SoughtItem {
     Found(Item),
     Missing,

@@ -3,7 +3,7 @@ ghost use Rattle.std.specs.Prelude.{◌≡◌};
 ghost use Rattle.sheet.specs.Faults.{number_of};
 
 // What is wrong with a sheet. The paper's number of each is `number_of` of specs/Faults.antt.
-#[derive(Drop)]
+#[derive(Clone, Copy)]
 pub enum Fault {
     Ended,
     Unknown,
@@ -15,7 +15,7 @@ pub enum Fault {
 }
 
 // How many records of each kind were read, and the octets of memory that the regions among them take.
-#[derive(Drop)]
+#[derive(Clone, Copy)]
 pub struct Counts {
     pub regions: u8,
     pub parameters: u8,
@@ -26,7 +26,7 @@ pub struct Counts {
 }
 
 // A record, with its size and the counts behind it, or a fault.
-#[derive(Drop)]
+#[derive(Clone, Copy)]
 pub enum Reading {
     Record(u8, Counts),
     Bad(Fault),

@@ -7,7 +7,7 @@ ghost use Rattle.sheet.specs.Walk.{counts, form_of, tolerance_in, release_in, la
 use crate::records::{Counts, Fault, Reading};
 
 // The types of PDU. A sheet picks one by the kind of its first record.
-#[derive(Drop)]
+#[derive(Clone, Copy)]
 pub enum Form {
     Enhanced,
     Short,
@@ -25,7 +25,7 @@ fn form_of(kind: u8) -> Form
 
 // What a valid sheet says: the type, the link record's three fields, the counts, how many failures in a row it tolerates, the release of the
 // drive rules, and the octets of memory.
-#[derive(Drop)]
+#[derive(Clone, Copy)]
 pub struct Layout {
     pub form: Form,
     pub l: u8,
@@ -42,7 +42,7 @@ pub struct Layout {
 }
 
 // A valid sheet with its layout, or the first fault with its place.
-#[derive(Drop)]
+#[derive(Clone, Copy)]
 pub enum Verdict {
     Valid(Layout),
     Faulty(Fault, u16),

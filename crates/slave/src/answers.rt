@@ -4,7 +4,7 @@ ghost use Rattle.slave.specs.Answers.{told, sheet_answer};
 
 use sheet::walk::Verdict;
 
-#[derive(Drop)]
+#[derive(Clone, Copy)]
 pub struct Answer {
     pub number: u8,
     pub place: u32,

@@ -31,7 +31,7 @@ fn refusal(layout: Layout, st: LinkState, memory: usize, command: usize, reply: 
 }
 
 // What a command comes to, and the place of what is wrong in it.
-#[derive(Drop)]
+#[derive(Clone, Copy)]
 struct Built {
     place: u8,
     outcome: Outcome,

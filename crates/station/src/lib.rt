@@ -1,5 +1,7 @@
 // The bench station: a slave on a sheet of a file and on commands of standard input. It starts with reset, enable and zero memory, and prints
 // each reply as one line of upper-case hex; a last piece shorter than L prints CUT; a refused sheet prints SHEET, number and place.
+#![tactic(auto)]
+
 use libc::{STDIN_FILENO, STDOUT_FILENO};
 use sheet::walk::{Layout, Verdict};
 use slave::answers::Answer;

@@ -1,4 +1,6 @@
 // Refusals by number and place, and commands in words, on the standard output, for the programs. What a number means the kit's words say.
+#![tactic(auto)]
+
 pub mod refused; // refused.rt: which octet of a command was wrong
 pub mod watchdog; // watchdog.rt: why the watchdog failed
 
