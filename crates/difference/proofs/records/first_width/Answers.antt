@@ -1,0 +1,18 @@
+-- `difference::records::first_width` meets its contract, kind by kind.
+use mathlib.Core.Path.{sym, ◌∙◌}
+use Rattle.octets.specs.Pick.{pick}
+use Rattle.octets.proofs.Pick.{pick_ne}
+use Rattle.difference.specs.Records.{first_width}
+use Rattle.difference.proofs.records.first_width.Goals as goal
+
+pub returns-in-2 : goal.returns-in-2
+unfolding first_width pick
+returns-in-2 c = rw c.in-2.keys1
+
+pub returns-in-3 : goal.returns-in-3
+unfolding first_width pick
+returns-in-3 c = rw c.in-3.keys2
+
+pub returns-in_default : goal.returns-in_default
+unfolding first_width
+returns-in_default c = sym (pick_ne _ _ c.in_default.rest.0.1 ∙ pick_ne _ _ c.in_default.rest.1)

@@ -1,0 +1,18 @@
+-- `difference::records::place` meets its contract, kind by kind.
+use mathlib.Core.Path.{sym, ◌∙◌}
+use Rattle.octets.specs.Pick.{pick}
+use Rattle.octets.proofs.Pick.{pick_ne}
+use Rattle.difference.specs.Records.{place_of}
+use Rattle.difference.proofs.records.place.Goals as goal
+
+pub returns-in-0 : goal.returns-in-0
+unfolding place_of pick
+returns-in-0 c = rw c.in-0.keys1
+
+pub returns-in-5 : goal.returns-in-5
+unfolding place_of pick
+returns-in-5 c = rw c.in-5.keys2
+
+pub returns-in_default : goal.returns-in_default
+unfolding place_of
+returns-in_default c = sym (pick_ne _ _ c.in_default.rest.0.1 ∙ pick_ne _ _ c.in_default.rest.1)

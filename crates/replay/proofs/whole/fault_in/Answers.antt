@@ -1,0 +1,15 @@
+-- `replay::whole::fault_in` meets its contract, case by case.
+use Rattle.replay.specs.Trace.{fault_in}
+use Rattle.replay.proofs.whole.fault_in.Goals as goal
+
+pub returns-in-End : goal.returns-in-End
+unfolding fault_in
+returns-in-End c = rw c.enum_told-1.given.1
+
+pub returns-in-Whole : goal.returns-in-Whole
+unfolding fault_in
+returns-in-Whole c = rw c.enum_told-in-Whole-1.given.1
+
+pub returns-in-Bad : goal.returns-in-Bad
+unfolding fault_in
+returns-in-Bad c = rw c.found-1.given.1

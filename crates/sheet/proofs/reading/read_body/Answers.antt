@@ -1,0 +1,95 @@
+-- `sheet::reading::read_body` meets its contract, kind by kind.
+use Prim.Native.Nat.{ℕ}
+use mathlib.Core.Bool.{false}
+use mathlib.Core.Path.{◌≡◌, refl, sym, ap, ap₂, ◌∙◌}
+use borrow.Author.Tests.{ne_eqb}
+use Rattle.octets.proofs.Pick.{pick_yes, pick_no, pick_eq, pick_ne, pick_key, pick_ge}
+use Rattle.sheet.specs.Kinds.{is_link, size_of}
+use Rattle.sheet.specs.Reading.{whole, body_of}
+use Rattle.sheet.specs.declared.records.Reading.{Reading}
+use Rattle.sheet.proofs.reading.read_body.Goals as goal
+
+pub returns-in-0 : goal.returns-in-0
+unfolding body_of size_of
+returns-in-0 c =
+    let k = c.in-0.keys1 in
+    let p = c.requires.0 in
+    sym (ap₂ (λ (n : ℕ) (r : Reading). whole n c.args.rest.now r) (pick_eq _ _ k) (pick_eq _ _ k) ∙ pick_ge _ _ p)
+
+pub returns-in-1 : goal.returns-in-1
+unfolding body_of size_of
+returns-in-1 c =
+    let k = c.in-1.keys2 in
+    c.read_link.ensures
+    ∙ sym
+    (ap₂ (λ (n : ℕ) (r : Reading). whole n c.args.rest.now r)
+    (pick_key 0 _ _ k refl ∙ pick_yes _ _ (ap is_link k))
+    (pick_key 0 _ _ k refl ∙ pick_yes _ _ (ap is_link k)))
+
+pub returns-in-2 : goal.returns-in-2
+unfolding body_of size_of
+returns-in-2 c =
+    let k = c.in-2.keys3 in
+    c.read_region.ensures
+    ∙ sym
+    (ap₂ (λ (n : ℕ) (r : Reading). whole n c.args.rest.now r)
+    (pick_key 0 _ _ k refl ∙ pick_no _ _ (ap is_link k) ∙ pick_eq _ _ k)
+    (pick_key 0 _ _ k refl ∙ pick_no _ _ (ap is_link k) ∙ pick_eq _ _ k))
+
+pub returns-in-3 : goal.returns-in-3
+unfolding body_of size_of
+returns-in-3 c =
+    let k = c.in-3.keys4 in
+    c.read_parameter.ensures
+    ∙ sym
+    (ap₂ (λ (n : ℕ) (r : Reading). whole n c.args.rest.now r)
+    (pick_key 0 _ _ k refl ∙ pick_no _ _ (ap is_link k) ∙ pick_key 2 _ _ k refl ∙ pick_eq _ _ k)
+    (pick_key 0 _ _ k refl ∙ pick_no _ _ (ap is_link k) ∙ pick_key 2 _ _ k refl ∙ pick_eq _ _ k))
+
+pub returns-in-4 : goal.returns-in-4
+unfolding body_of size_of
+returns-in-4 c =
+    let k = c.in-4.keys5 in
+    c.read_item.ensures
+    ∙ sym
+    (ap₂ (λ (n : ℕ) (r : Reading). whole n c.args.rest.now r)
+    (pick_key 0 _ _ k refl ∙ pick_no _ _ (ap is_link k) ∙ pick_key 2 _ _ k refl ∙ pick_key 3 _ _ k refl ∙ pick_eq _ _ k)
+    (pick_key 0 _ _ k refl ∙ pick_no _ _ (ap is_link k) ∙ pick_key 2 _ _ k refl ∙ pick_key 3 _ _ k refl ∙ pick_eq _ _ k))
+
+pub returns-in-5 : goal.returns-in-5
+unfolding body_of size_of
+returns-in-5 c =
+    let k = c.in-5.keys6 in
+    c.read_link-in-5.ensures
+    ∙ sym
+    (ap₂ (λ (n : ℕ) (r : Reading). whole n c.args.rest.now r)
+    (pick_key 0 _ _ k refl ∙ pick_yes _ _ (ap is_link k))
+    (pick_key 0 _ _ k refl ∙ pick_yes _ _ (ap is_link k)))
+
+no_link : (kind : ℕ) → (kind ≡ 1 → ⊥) → (kind ≡ 5 → ⊥) → is_link kind ≡ false
+no_link kind a b = rw (ne_eqb kind 1 a, ne_eqb kind 5 b)
+
+pub returns-in-6 : goal.returns-in-6
+unfolding body_of size_of
+returns-in-6 c =
+    let k = c.in-6.keys7 in
+    c.read_tolerance.ensures
+    ∙ sym
+    (ap₂ (λ (n : ℕ) (r : Reading). whole n c.args.rest.now r)
+    (pick_key 0 _ _ k refl ∙ pick_no _ _ (ap is_link k) ∙ pick_key 2 _ _ k refl ∙ pick_key 3 _ _ k refl ∙ pick_key 4 _ _ k refl)
+    (pick_key 0 _ _ k refl ∙ pick_no _ _ (ap is_link k) ∙ pick_key 2 _ _ k refl ∙ pick_key 3 _ _ k refl ∙ pick_key 4 _ _ k refl ∙ pick_eq _ _ k))
+
+pub returns-in_default : goal.returns-in_default
+unfolding body_of size_of
+returns-in_default c =
+    let n = c.in_default.rest in
+    let no₄ = n.0.0.1 in
+    let no₃ = n.0.0.0.1 in
+    let no₂ = n.0.0.0.0.1 in
+    let link = no_link _ n.0.0.0.0.0.1 n.0.1 in
+    let no₀ = n.0.0.0.0.0.0.1 in
+    c.read_release.ensures
+    ∙ sym
+    (ap₂ (λ (m : ℕ) (r : Reading). whole m c.args.rest.now r)
+    (pick_ne _ _ no₀ ∙ pick_no _ _ link ∙ pick_ne _ _ no₂ ∙ pick_ne _ _ no₃ ∙ pick_ne _ _ no₄)
+    (pick_ne _ _ no₀ ∙ pick_no _ _ link ∙ pick_ne _ _ no₂ ∙ pick_ne _ _ no₃ ∙ pick_ne _ _ no₄ ∙ pick_ne _ _ n.1))

@@ -1,0 +1,13 @@
+-- `slave::answers::sheet_answer` meets its contract, case by case.
+use Prim.Native.Nat.{ℕ}
+use mathlib.Core.Path.{ap}
+use Rattle.slave.specs.Answers.{told, sheet_answer}
+use Rattle.slave.proofs.answers.sheet_answer.Goals as goal
+
+pub returns-in-Valid : goal.returns-in-Valid
+unfolding sheet_answer
+returns-in-Valid c = rw c.enum_told-1.given.1
+
+pub returns-in-Faulty : goal.returns-in-Faulty
+unfolding sheet_answer
+returns-in-Faulty c = rw c.verdict-1.given.1 (ap (λ (n : ℕ). told n c.verdict-1.given.0.1.0) c.fault_number.ensures)
