@@ -9,4 +9,4 @@ returns-in-Valid c = ap lengths_of (sym c.layout-1.given.1 ∙ c.check.ensures)
 
 pub returns-in-Faulty : goal.returns-in-Faulty
 unfolding lengths_of
-returns-in-Faulty c = ap lengths_of (sym c.enum_told-1.given.1 ∙ c.check.ensures)
+returns-in-Faulty c = ap lengths_of (sym c.in-Faulty.is ∙ c.check.ensures)

@@ -18,7 +18,7 @@ returns-then-kind-kind_at c =
 
 pub new-requires : goal.new-requires
 unfolding enters
-new-requires c κs =
+new-requires c =
     let call = c in
     let s = call in
     let few = gone_most s.args.first.now s.args.i in

@@ -23,7 +23,7 @@ overflow_add-kind c =
     omega (arith, k, c.kind_at-kind.ensures)
 
 pub lay_part-requires : goal.lay_part-requires
-lay_part-requires c κs =
+lay_part-requires c =
     let s = c in
     let p = s.requires in
     let w = size_most s.kind_at-kind.result in

@@ -20,7 +20,7 @@ loop-list-init c =
     left_first a.first.now a.second.now a.list.now
 
 pub take_turn-next-requires : goal.take_turn-next-requires
-take_turn-next-requires c κs =
+take_turn-next-requires c =
     let l = c.loop-list in
     let p = c.requires in
     let i = l.invariant.first_in in

@@ -22,7 +22,7 @@ bits_are a i b j kind u v w x y z p q r e f g =
     ∙ ap (λ (n : ℕ). bit_of a (i + 1 + first_width kind + second_width kind) b (j + 1 + first_width kind + second_width kind) n 4) r)
 
 pub bit_of-requires : goal.bit_of-requires
-bit_of-requires c κs =
+bit_of-requires c =
     let s = c in
     let u = first_most s.args.kind in
     (omega (arith, s.requires.0), omega (arith, s.requires.1), omega (arith, u, c.first_width-one.ensures))
@@ -40,7 +40,7 @@ overflow_add-j-3 c =
     omega (arith, s.requires.1, u, c.first_width-one.ensures)
 
 pub bit_of-requires-2 : goal.bit_of-requires-2
-bit_of-requires-2 c κs =
+bit_of-requires-2 c =
     let s = c in
     let u = first_most s.args.kind in
     let v = second_most s.args.kind in
@@ -82,7 +82,7 @@ overflow_add-j-6 c =
     omega (arith, s.requires.1, u, v, c.first_width-one.ensures, c.second_width-two.ensures)
 
 pub bit_of-requires-3 : goal.bit_of-requires-3
-bit_of-requires-3 c κs =
+bit_of-requires-3 c =
     let s = c in
     let u = first_most s.args.kind in
     let v = second_most s.args.kind in

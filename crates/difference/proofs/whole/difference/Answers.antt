@@ -24,16 +24,16 @@ returns-in_default-other c =
     let a = first.args in
     ap (λ (x : Answer). listed x a.list.now) (c.second_answer.ensures ∙ ap (λ (v : Verdict). second_answer (sheet_answer v)) second.check-other.ensures)
     ∙ sym
-    (on_valid _ _ _ _ (sym first.check-verdict.ensures ∙ second.enum_told-1.given.1)
+    (on_valid _ _ _ _ (sym first.check-verdict.ensures ∙ second.in-Valid.is)
     ∙ on_faulty _ _ _ _ _ (sym second.check-other.ensures ∙ c.enum_told-in_default-other-1.given.1))
 
 pub enter-requires : goal.enter-requires
-enter-requires c κs =
+enter-requires c =
     let second = c in
     let first = second in
     let a = first.args in (
-      (valid_sheet a.first.now _ (sym first.check-verdict.ensures ∙ second.enum_told-1.given.1)).short,
-      (valid_sheet a.second.now _ (sym second.check-other.ensures ∙ c.enum_told-in-Valid-other-1.given.1)).short,
+      (valid_sheet a.first.now _ (sym first.check-verdict.ensures ∙ second.in-Valid.is)).short,
+      (valid_sheet a.second.now _ (sym second.check-other.ensures ∙ c.in-Valid-other.is)).short,
     )
 
 pub returns : goal.returns
@@ -45,5 +45,5 @@ returns c =
     let first = second in
     call.enter.ensures
     ∙ sym
-    (on_valid _ _ _ _ (sym first.check-verdict.ensures ∙ second.enum_told-1.given.1)
-    ∙ on_valid _ _ _ _ (sym second.check-other.ensures ∙ told.enum_told-in-Valid-other-1.given.1))
+    (on_valid _ _ _ _ (sym first.check-verdict.ensures ∙ second.in-Valid.is)
+    ∙ on_valid _ _ _ _ (sym second.check-other.ensures ∙ told.in-Valid-other.is))

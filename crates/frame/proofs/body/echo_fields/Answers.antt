@@ -7,7 +7,7 @@ use Rattle.frame.proofs.Numbers.{echo_before}
 use Rattle.frame.proofs.body.echo_fields.Goals as goal
 
 pub enter-requires : goal.enter-requires
-enter-requires c κs =
+enter-requires c =
     let a = c.args in
     let p = c.requires in
     let e = echo_before a.form a.by in

@@ -11,7 +11,7 @@ use Rattle.frame.proofs.body.fill_body.Goals as goal
 
 pub carry-requires : goal.carry-requires
 unfolding Fitting
-carry-requires c κs =
+carry-requires c =
     let a = c.args in
     let p = c.requires in
     let e = p.0 in
@@ -21,7 +21,7 @@ carry-requires c κs =
 
 pub carry-requires-in-Writes : goal.carry-requires-in-Writes
 unfolding Fitting
-carry-requires-in-Writes c κs =
+carry-requires-in-Writes c =
     let a = c.args in
     let p = c.requires in
     let e = p.0 in
@@ -31,7 +31,7 @@ carry-requires-in-Writes c κs =
 
 pub identify-requires : goal.identify-requires
 unfolding Fitting
-identify-requires c κs =
+identify-requires c =
     let a = c.args in
     let p = c.requires in
     let e = p.0 in
@@ -43,7 +43,7 @@ identify-requires c κs =
 
 pub tell_alarms-requires : goal.tell_alarms-requires
 unfolding Fitting
-tell_alarms-requires c κs =
+tell_alarms-requires c =
     let a = c.args in
     let p = c.requires in
     let e = p.0 in
@@ -53,11 +53,11 @@ tell_alarms-requires c κs =
 
 pub echo_named-requires : goal.echo_named-requires
 unfolding Fitting
-echo_named-requires c κs =
+echo_named-requires c =
     let a = c.args in
     let p = c.requires in
     let e = p.0 in
-    let f = subst (λ (x : Effect). Fitting a.form x (length a.reply.now) (length a.memory.now) (length a.sheet.now)) c.enum_told-in-Connects-1.given.1 p.1 in
+    let f = subst (λ (x : Effect). Fitting a.form x (length a.reply.now) (length a.memory.now) (length a.sheet.now)) c.in-Connects.is p.1 in
     let w = end_within a.form (length a.reply.now) in
     let d = c.fields_end-in-Connects.ensures in
     let g = fields_behind a.form in
@@ -65,7 +65,7 @@ echo_named-requires c κs =
 
 pub returns-in-Quiet : goal.returns-in-Quiet
 unfolding body_of
-returns-in-Quiet c = rw c.enum_told-1.given.1
+returns-in-Quiet c = rw c.in-Quiet.is
 
 pub returns-in-Reads : goal.returns-in-Reads
 unfolding body_of
@@ -98,5 +98,5 @@ pub returns-in-Connects : goal.returns-in-Connects
 unfolding body_of
 returns-in-Connects c =
     let a = c.args in
-    rw c.enum_told-in-Connects-1.given.1
+    rw c.in-Connects.is
     (c.echo_named.ensures ∙ ap (λ (k : ℕ). echoed a.command.now 4 (k - 4) a.reply.now) c.fields_end-in-Connects.ensures)

@@ -11,7 +11,7 @@ use Rattle.frame.proofs.body.store.Goals as goal
 
 pub enter-requires : goal.enter-requires
 unfolding Storing
-enter-requires c κs =
+enter-requires c =
     let a = c.args in
     let f = subst (λ (x : Effect). Storing a.form x (length a.command.now) (length a.memory.now)) c.effect-1.given.1 c.requires in
     let w = end_within a.form (length a.command.now) in
@@ -19,11 +19,11 @@ enter-requires c κs =
 
 pub returns-in-Quiet : goal.returns-in-Quiet
 unfolding memory_after
-returns-in-Quiet c = rw c.enum_told-1.given.1
+returns-in-Quiet c = rw c.in-Quiet.is
 
 pub returns-in-Reads : goal.returns-in-Reads
 unfolding memory_after
-returns-in-Reads c = rw c.enum_told-in-Reads-1.given.1
+returns-in-Reads c = rw c.in-Reads.is
 
 pub returns-in-Writes : goal.returns-in-Writes
 unfolding memory_after
@@ -35,12 +35,12 @@ returns-in-Writes c =
 
 pub returns-in-Identifies : goal.returns-in-Identifies
 unfolding memory_after
-returns-in-Identifies c = rw c.enum_told-in-Identifies-1.given.1
+returns-in-Identifies c = rw c.in-Identifies.is
 
 pub returns-in-Alarms : goal.returns-in-Alarms
 unfolding memory_after
-returns-in-Alarms c = rw c.enum_told-in-Alarms-1.given.1
+returns-in-Alarms c = rw c.in-Alarms.is
 
 pub returns-in-Connects : goal.returns-in-Connects
 unfolding memory_after
-returns-in-Connects c = rw c.enum_told-in-Connects-1.given.1
+returns-in-Connects c = rw c.in-Connects.is

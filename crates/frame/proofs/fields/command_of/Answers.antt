@@ -5,7 +5,7 @@ use Rattle.frame.specs.Fields.{command_of}
 use Rattle.frame.proofs.fields.command_of.Goals as goal
 
 pub returns-in-Enhanced : goal.returns-in-Enhanced
-returns-in-Enhanced c = c.enhanced.ensures ∙ sym (ap (λ (x : Form). command_of x c.args.command.now) c.enum_told-1.given.1)
+returns-in-Enhanced c = c.enhanced.ensures ∙ sym (ap (λ (x : Form). command_of x c.args.command.now) c.in-Enhanced.is)
 
 pub returns-in-Short : goal.returns-in-Short
-returns-in-Short c = c.short.ensures ∙ sym (ap (λ (x : Form). command_of x c.args.command.now) c.enum_told-in-Short-1.given.1)
+returns-in-Short c = c.short.ensures ∙ sym (ap (λ (x : Form). command_of x c.args.command.now) c.in-Short.is)

@@ -13,16 +13,16 @@ use Rattle.frame.proofs.Numbers.{sized_long}
 use Rattle.frame.proofs.head.head.Goals as goal
 
 pub four-requires : goal.four-requires
-four-requires c κs = let a = c.args in let l = sized_long a.form (length a.reply.now) c.requires in omega arith
+four-requires c = let a = c.args in let l = sized_long a.form (length a.reply.now) c.requires in omega arith
 
 pub four-requires-in-Short : goal.four-requires-in-Short
-four-requires-in-Short c κs = let a = c.args in let l = sized_long a.form (length a.reply.now) c.requires in omega arith
+four-requires-in-Short c = let a = c.args in let l = sized_long a.form (length a.reply.now) c.requires in omega arith
 
 pub last-requires : goal.last-requires
 unfolding Sized
-last-requires c κs =
+last-requires c =
     let a = c.args in
-    let s = subst (λ (x : Form). Sized x (length a.reply.now)) c.enum_told-in-Short-1.given.1 c.requires in
+    let s = subst (λ (x : Form). Sized x (length a.reply.now)) c.in-Short.is c.requires in
     c.four-in-Short.auto.0 ∙ s
 
 pub returns-in-Enhanced : goal.returns-in-Enhanced
@@ -30,7 +30,7 @@ unfolding begun_of head_of
 returns-in-Enhanced c =
     let a = c.args in
     let l = length a.reply.now in
-    rw c.enum_told-1.given.1
+    rw c.in-Enhanced.is
     (c.four.ensures
     ∙ ap₂ (λ (r w : ℕ). put_at (replicate l 0) 0 (a.code ∷ r ∷ w % 256 ∷ w / 256 ∷ [])) c.rwdt.ensures c.status.ensures)
 
@@ -39,7 +39,7 @@ unfolding begun_of head_of
 returns-in-Short c =
     let a = c.args in
     let l = length a.reply.now in
-    rw c.enum_told-in-Short-1.given.1
+    rw c.in-Short.is
     (c.last.ensures
     ∙ ap₂ (λ (x : List ℕ) (r : ℕ). put_at x (wdt_at Short) (r ∷ []))
     (c.four-in-Short.ensures ∙ ap (λ (w : ℕ). put_at (replicate l 0) 0 (a.code ∷ a.alarm ∷ w % 256 ∷ w / 256 ∷ [])) c.status-in-Short.ensures)

@@ -11,8 +11,8 @@ overflow_add-result c = omega (arith, c.fields_end-in-Memory.ensures, fields_mos
 
 pub returns-in-Parameter : goal.returns-in-Parameter
 unfolding data_from
-returns-in-Parameter c = c.fields_end.ensures ∙ sym (ap (data_from c.args.form) c.enum_told-1.given.1)
+returns-in-Parameter c = c.fields_end.ensures ∙ sym (ap (data_from c.args.form) c.in-Parameter.is)
 
 pub returns-in-Memory : goal.returns-in-Memory
 unfolding data_from
-returns-in-Memory c = ap (λ (n : ℕ). n + 4) c.fields_end-in-Memory.ensures ∙ sym (ap (data_from c.args.form) c.enum_told-in-Memory-1.given.1)
+returns-in-Memory c = ap (λ (n : ℕ). n + 4) c.fields_end-in-Memory.ensures ∙ sym (ap (data_from c.args.form) c.in-Memory.is)

@@ -5,8 +5,8 @@ use Rattle.frame.proofs.places.echo_from.Goals as goal
 
 pub returns-in-Parameter : goal.returns-in-Parameter
 unfolding echo_from
-returns-in-Parameter c = sym (ap echo_from c.enum_told-1.given.1)
+returns-in-Parameter c = sym (ap echo_from c.in-Parameter.is)
 
 pub returns-in-Memory : goal.returns-in-Memory
 unfolding echo_from
-returns-in-Memory c = sym (ap echo_from c.enum_told-in-Memory-1.given.1)
+returns-in-Memory c = sym (ap echo_from c.in-Memory.is)

@@ -11,8 +11,8 @@ overflow_sub-result c = omega (arith, c.fields_end.ensures, fields_behind c.args
 
 pub returns-in-Parameter : goal.returns-in-Parameter
 unfolding echo_size
-returns-in-Parameter c = sym (ap (echo_size c.args.form) c.enum_told-1.given.1)
+returns-in-Parameter c = sym (ap (echo_size c.args.form) c.in-Parameter.is)
 
 pub returns-in-Memory : goal.returns-in-Memory
 unfolding echo_size
-returns-in-Memory c = ap (λ (n : ℕ). n - 1) c.fields_end.ensures ∙ sym (ap (echo_size c.args.form) c.enum_told-in-Memory-1.given.1)
+returns-in-Memory c = ap (λ (n : ℕ). n - 1) c.fields_end.ensures ∙ sym (ap (echo_size c.args.form) c.in-Memory.is)

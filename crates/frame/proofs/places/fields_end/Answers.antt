@@ -5,8 +5,8 @@ use Rattle.frame.proofs.places.fields_end.Goals as goal
 
 pub returns-in-Enhanced : goal.returns-in-Enhanced
 unfolding fields_end
-returns-in-Enhanced c = sym (ap fields_end c.enum_told-1.given.1)
+returns-in-Enhanced c = sym (ap fields_end c.in-Enhanced.is)
 
 pub returns-in-Short : goal.returns-in-Short
 unfolding fields_end
-returns-in-Short c = sym (ap fields_end c.enum_told-in-Short-1.given.1)
+returns-in-Short c = sym (ap fields_end c.in-Short.is)

@@ -5,8 +5,8 @@ use Rattle.frame.proofs.places.mode_size.Goals as goal
 
 pub returns-in-Enhanced : goal.returns-in-Enhanced
 unfolding mode_size
-returns-in-Enhanced c = sym (ap mode_size c.enum_told-1.given.1)
+returns-in-Enhanced c = sym (ap mode_size c.in-Enhanced.is)
 
 pub returns-in-Short : goal.returns-in-Short
 unfolding mode_size
-returns-in-Short c = sym (ap mode_size c.enum_told-in-Short-1.given.1)
+returns-in-Short c = sym (ap mode_size c.in-Short.is)

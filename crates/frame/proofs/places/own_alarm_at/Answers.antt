@@ -5,8 +5,8 @@ use Rattle.frame.proofs.places.own_alarm_at.Goals as goal
 
 pub returns-in-Enhanced : goal.returns-in-Enhanced
 unfolding own_alarm_at
-returns-in-Enhanced c = sym (ap own_alarm_at c.enum_told-1.given.1)
+returns-in-Enhanced c = sym (ap own_alarm_at c.in-Enhanced.is)
 
 pub returns-in-Short : goal.returns-in-Short
 unfolding own_alarm_at
-returns-in-Short c = sym (ap own_alarm_at c.enum_told-in-Short-1.given.1)
+returns-in-Short c = sym (ap own_alarm_at c.in-Short.is)

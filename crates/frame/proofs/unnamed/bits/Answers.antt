@@ -9,16 +9,16 @@ pub returns-then-k-eq2 : goal.returns-then-k-eq2
 unfolding unnamed_bits
 returns-then-k-eq2 c =
     let a = c.args in
-    sym (ap (λ (x : Form). unnamed_bits x a.k a.x) c.enum_told-1.given.1 ∙ pick_eq _ _ c.if-k-eq2.true)
+    sym (ap (λ (x : Form). unnamed_bits x a.k a.x) c.in-Enhanced.is ∙ pick_eq _ _ c.if-k-eq2.true)
 
 pub returns-else-k-eq2 : goal.returns-else-k-eq2
 unfolding unnamed_bits
 returns-else-k-eq2 c =
     let a = c.args in
-    sym (ap (λ (x : Form). unnamed_bits x a.k a.x) c.enum_told-1.given.1 ∙ pick_ne _ _ c.if-k-eq2.false)
+    sym (ap (λ (x : Form). unnamed_bits x a.k a.x) c.in-Enhanced.is ∙ pick_ne _ _ c.if-k-eq2.false)
 
 pub returns-in-Short : goal.returns-in-Short
 unfolding unnamed_bits
 returns-in-Short c =
     let a = c.args in
-    sym (ap (λ (x : Form). unnamed_bits x a.k a.x) c.enum_told-in-Short-1.given.1)
+    sym (ap (λ (x : Form). unnamed_bits x a.k a.x) c.in-Short.is)

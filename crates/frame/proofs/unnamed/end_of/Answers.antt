@@ -9,14 +9,14 @@ pub returns-then-l-eq16 : goal.returns-then-l-eq16
 unfolding unnamed_end
 returns-then-l-eq16 c =
     let a = c.args in
-    sym (ap (λ (x : Form). unnamed_end x a.l) c.enum_told-in-Short-1.given.1 ∙ pick_eq _ _ c.if-l-eq16.true)
+    sym (ap (λ (x : Form). unnamed_end x a.l) c.in-Short.is ∙ pick_eq _ _ c.if-l-eq16.true)
 
 pub returns-in-Enhanced : goal.returns-in-Enhanced
 unfolding unnamed_end
-returns-in-Enhanced c = sym (ap (λ (x : Form). unnamed_end x c.args.l) c.enum_told-1.given.1)
+returns-in-Enhanced c = sym (ap (λ (x : Form). unnamed_end x c.args.l) c.in-Enhanced.is)
 
 pub returns-else-l-eq16 : goal.returns-else-l-eq16
 unfolding unnamed_end
 returns-else-l-eq16 c =
     let a = c.args in
-    sym (ap (λ (x : Form). unnamed_end x a.l) c.enum_told-in-Short-1.given.1 ∙ pick_ne _ _ c.if-l-eq16.false)
+    sym (ap (λ (x : Form). unnamed_end x a.l) c.in-Short.is ∙ pick_ne _ _ c.if-l-eq16.false)

@@ -17,11 +17,11 @@ unfolding HeadClear
 returns-in-Enhanced c e =
     let a = c.args in
     let p = both _ _ e in
-    subst (λ (x : Form). HeadClear x a.command.now) (sym c.enum_told-1.given.1)
+    subst (λ (x : Form). HeadClear x a.command.now) (sym c.in-Enhanced.is)
     (ap (λ (n : ℕ). n % 64) (sym c.octet.ensures) ∙ eqb-true _ 0 p.0, sym c.octet-in-Enhanced.ensures ∙ eqb-true _ 0 p.1)
 
 pub returns-in-Short : goal.returns-in-Short
 unfolding HeadClear
 returns-in-Short c e =
     let a = c.args in
-    subst (λ (x : Form). HeadClear x a.command.now) (sym c.enum_told-in-Short-1.given.1) (c.zero_between.ensures e)
+    subst (λ (x : Form). HeadClear x a.command.now) (sym c.in-Short.is) (c.zero_between.ensures e)

@@ -15,7 +15,7 @@ unfolding names_for is_named
 returns-in-Enhanced c =
     let a = c.args in
     ap₂ ◌||◌ c.in_run-in-Enhanced.ensures (ap₂ ◌||◌ c.in_run.ensures (c.in_run-2.ensures ∙ no_more _))
-    ∙ sym (ap (λ (x : Form). is_named (names_for x a.fields a.written) a.k) c.enum_told-1.given.1)
+    ∙ sym (ap (λ (x : Form). is_named (names_for x a.fields a.written) a.k) c.in-Enhanced.is)
 
 pub returns-in-Short : goal.returns-in-Short
 unfolding names_for is_named
@@ -23,4 +23,4 @@ returns-in-Short c =
     let a = c.args in
     ap₂ ◌||◌ c.in_run-in-Short.ensures
     (ap₂ ◌||◌ c.in_run-in-Short-2.ensures (ap₂ ◌||◌ c.in_run.ensures (c.in_run-2.ensures ∙ no_more _)))
-    ∙ sym (ap (λ (x : Form). is_named (names_for x a.fields a.written) a.k) c.enum_told-in-Short-1.given.1)
+    ∙ sym (ap (λ (x : Form). is_named (names_for x a.fields a.written) a.k) c.in-Short.is)

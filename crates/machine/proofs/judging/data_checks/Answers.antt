@@ -130,4 +130,4 @@ returns-in_default c =
     ∙ pick_ne _ _ c.in_default.rest.1)
 
 pub memory-requires : goal.memory-requires
-memory-requires c κs = c.requires.laid
+memory-requires c = c.requires.laid

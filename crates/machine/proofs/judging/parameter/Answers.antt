@@ -8,7 +8,7 @@ use Rattle.machine.specs.Judging.{parameter_data, parameter_of}
 use Rattle.machine.proofs.judging.parameter.Goals as goal
 
 pub find_parameter-found-requires : goal.find_parameter-found-requires
-find_parameter-found-requires c κs =
+find_parameter-found-requires c =
     let p = c.requires.inside in
     omega arith
 
@@ -41,4 +41,4 @@ returns c =
     ∙ pick_ge _ _ (subst (λ (n : ℕ). c.args.c.size ≤ n) c.room.ensures c.if-room-c.false))
 
 pub granted-requires : goal.granted-requires
-granted-requires c κs = c.requires.laid
+granted-requires c = c.requires.laid

@@ -19,7 +19,7 @@ unfolding granted_of reach_of
 returns-then-reach-size c =
     let a = c.args in
     let rs = regions_of a.sheet.now a.regions in
-    let found = c2 in
+    let found = c.before-reach in
     let e = found.ensures ∙ ap (λ (w : Right). reach_of rs w a.address a.size) c.right_of.ensures in
     let all : before_of rs (right_of a.writes a.st.link) a.address a.size ≡ a.size = sym (ap (λ (r : Reach). r.before) e) ∙ c.if-reach-size.true in
     let place : found.result.place ≡ span_place rs a.address a.size =
@@ -32,6 +32,6 @@ unfolding granted_of reach_of
 returns c =
     let a = c.args in
     let rs = regions_of a.sheet.now a.regions in
-    let e = c2.ensures ∙ ap (λ (w : Right). reach_of rs w a.address a.size) c.right_of.ensures in
+    let e = c.before-reach.ensures ∙ ap (λ (w : Right). reach_of rs w a.address a.size) c.right_of.ensures in
     let before = ap (λ (r : Reach). r.before) e in
     ap (λ (b : ℕ). Refused 10 (Span b)) before ∙ sym (pick_yes _ _ (ap not (ne_eqb _ _ (λ all. c.if-reach-size.false (before ∙ all)))))

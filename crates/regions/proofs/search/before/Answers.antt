@@ -1,6 +1,6 @@
 -- `regions::search::before` meets its contract. Outside and inside the same stands behind the search (Kept) and behind the first octet's place (Placed);
 -- inside the octet stays.
-use Prim.Native.Nat.{ℕ, ◌+◌, ◌-◌, ◌*◌, ◌≤◌}
+use Prim.Native.Nat.{ℕ, ◌+◌, ◌-◌, ◌≤◌}
 use mathlib.Core.List.{List}
 use mathlib.Core.Logic.{⊎_elim}
 use mathlib.Core.Path.{◌≡◌, sym, ap, ◌∙◌}
@@ -8,16 +8,10 @@ use native.Mathlib.Omega.{arith}
 use Rattle.regions.specs.Region.{region_from, region_at, regions_of}
 use Rattle.regions.specs.Search.{spot_of, place_in, before_of}
 use Rattle.regions.specs.declared.Right.{Right}
-use Rattle.regions.proofs.Kept.{Kept, kept_first, kept_octet, kept_region, kept_within, kept_out, kept_denied, kept_ends}
+use Rattle.regions.proofs.Kept.{kept_first, kept_octet, kept_region, kept_within, kept_out, kept_denied, kept_ends}
 use Rattle.regions.proofs.Placed.{Placed, placed_first, placed_octet, placed_region, placed_found, reach_short, reach_none, reach_all}
+use Rattle.regions.proofs.search.before.Invariants.{Next}
 use Rattle.regions.proofs.search.before.Goals as goal
-
--- the next region is the i-th, and its record stands at the place
-record Next (s : List ℕ) (n : ℕ) (w : Right) (a at end base place : ℕ) : Type 0 where
-  i : ℕ
-  stands : place ≡ 4 + 10 * i
-  kept : Kept (region_at s) n w a at end i
-  placed : Placed (region_at s) n a at end base i
 
 pub octets-init : goal.octets-init
 octets-init c =
@@ -31,7 +25,7 @@ pub loop-end-init : goal.loop-end-init
 loop-end-init c = c.octets.invariant.1
 
 pub region_in-region-requires : goal.region_in-region-requires
-region_in-region-requires c κs =
+region_in-region-requires c =
     let p = c.requires.inside in
     let s = c.loop-end.invariant.stands in
     omega arith

@@ -16,7 +16,7 @@ loop-i-init c =
     passing_start (region_at a.sheet.now) a.regions Mapped a.address
 
 pub region_in-region-requires : goal.region_in-region-requires
-region_in-region-requires c κs =
+region_in-region-requires c =
     let p = c.requires.inside in
     omega arith
 

@@ -4,4 +4,4 @@ use Rattle.regions.proofs.search.has.Goals as goal
 
 pub returns : goal.returns
 unfolding reach_of
-returns c = rw c2.ensures
+returns c = rw c.before-2.ensures

@@ -31,19 +31,19 @@ loop-at-init c =
     )
 
 pub command_at-command-requires : goal.command_at-command-requires
-command_at-command-requires c κs =
+command_at-command-requires c =
     let a = c.args in
     let l = c.loop-at in
     one_whole (length a.trace.now) l.at l.invariant.4.0 (record_size a.layout.l) l.invariant.4.1 c.loop-at-test.true
 
 pub reply_at-theirs-requires : goal.reply_at-theirs-requires
-reply_at-theirs-requires c κs =
+reply_at-theirs-requires c =
     let a = c.args in
     let l = c.loop-at in
     one_whole (length a.trace.now) l.at l.invariant.4.0 (record_size a.layout.l) l.invariant.4.1 c.loop-at-test.true
 
 pub one-d-requires : goal.one-d-requires
-one-d-requires c κs =
+one-d-requires c =
     let a = c.args in
     let p = c.requires in
     let l = c.loop-at in
@@ -87,7 +87,7 @@ pub overflow_add-k : goal.overflow_add-k
 overflow_add-k c = omega (arith, c.loop-at.invariant.0, c.requires.3)
 
 pub behind-at-requires : goal.behind-at-requires
-behind-at-requires c κs = omega (arith, c.loop-at-test.true, c.requires.3)
+behind-at-requires c = omega (arith, c.loop-at-test.true, c.requires.3)
 
 pub loop-at-smaller : goal.loop-at-smaller
 loop-at-smaller c = omega (arith, c.loop-at-test.true)

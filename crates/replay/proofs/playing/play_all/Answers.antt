@@ -18,7 +18,7 @@ slice_bounds-play-end c =
     sym (length-take-le a.layout.l _ m)
 
 pub play-requires : goal.play-requires
-play-requires c κs =
+play-requires c =
     let a = c.args in
     let p = c.requires in
     let m = length_most a.sheet.now a.layout (valid_sheet a.sheet.now a.layout p.0) in

@@ -47,7 +47,7 @@ returns-then-form-ne0 c =
     ∙ pick_differ _ _ (λ z. c.if-form-ne0.true (ap (λ (x : Answer). x.number) f.ensures ∙ z)))
 
 pub play_all-requires : goal.play_all-requires
-play_all-requires c κs =
+play_all-requires c =
     let a = c.args in
     let f = c.checked-form in
     let w = checked_whole _ a.trace.now (sym (ap (λ (x : Answer). x.number) f.ensures) ∙ c.if-form-ne0.false) in (

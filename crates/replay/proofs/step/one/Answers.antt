@@ -11,7 +11,7 @@ use Rattle.replay.proofs.Steps.{step_performed, is_exchanged}
 use Rattle.replay.proofs.step.one.Goals as goal
 
 pub perform-told-requires : goal.perform-told-requires
-perform-told-requires c κs =
+perform-told-requires c =
     let a = c.args in
     let p = c.requires in
     let f = c.fields-st in (

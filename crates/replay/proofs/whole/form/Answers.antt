@@ -34,7 +34,7 @@ returns-then-fault-ne0 c =
     ∙ sym (here ∙ form_bad a.l a.trace.now k q.0 u c.fault_in-fault.result (sym f) c.if-fault-ne0.true)
 
 pub behind-at-requires : goal.behind-at-requires
-behind-at-requires c κs = omega (arith, c.requires)
+behind-at-requires c = omega (arith, c.requires)
 
 pub loop-at-smaller : goal.loop-at-smaller
 loop-at-smaller c = omega arith

@@ -22,7 +22,7 @@ loop-j-init c =
     (omega arith, sought_whole (λ (x : Parameter). x.number) SoughtParameter.Found SoughtParameter.Missing (parameter_at a.sheet.now a.regions) 0 a.parameters a.number)
 
 pub parameter_at-passed-requires : goal.parameter_at-passed-requires
-parameter_at-passed-requires c κs =
+parameter_at-passed-requires c =
     let p = c.requires in
     omega (arith, c.loop-j.invariant.0)
 
@@ -37,7 +37,7 @@ loop-j-preserved c =
     (omega arith, l.invariant.1 ∙ sought_past (λ (x : Parameter). x.number) SoughtParameter.Found SoughtParameter.Missing (parameter_at a.sheet.now a.regions) l.j a.parameters a.number r.result r.ensures l.invariant.0 c.if-passed-number.false)
 
 pub parameter_at-parameter-requires : goal.parameter_at-parameter-requires
-parameter_at-parameter-requires c κs =
+parameter_at-parameter-requires c =
     let p = c.requires in
     omega (arith, c.loop-j.invariant.0)
 

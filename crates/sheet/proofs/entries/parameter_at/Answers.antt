@@ -3,7 +3,7 @@ use native.Mathlib.Omega.{arith}
 use Rattle.sheet.proofs.entries.parameter_at.Goals as goal
 
 pub parameter_in-requires : goal.parameter_in-requires
-parameter_in-requires c κs =
+parameter_in-requires c =
     let p = c.requires in
     omega arith
 

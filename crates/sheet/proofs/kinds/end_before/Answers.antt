@@ -14,6 +14,6 @@ unfolding end_before
 returns c = rw c.region_in-last.ensures (sym (pick_ne _ _ c.if-n-eq0.false))
 
 pub region_in-last-requires : goal.region_in-last-requires
-region_in-last-requires c κs =
+region_in-last-requires c =
     let p = c.requires in
     omega arith

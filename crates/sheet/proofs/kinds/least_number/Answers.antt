@@ -14,6 +14,6 @@ unfolding least_number
 returns c = rw c.parameter_in-last.ensures (sym (pick_ne _ _ c.if-n-eq0.false))
 
 pub parameter_in-last-requires : goal.parameter_in-last-requires
-parameter_in-last-requires c κs =
+parameter_in-last-requires c =
     let p = c.requires in
     omega arith

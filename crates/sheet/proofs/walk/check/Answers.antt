@@ -15,7 +15,7 @@ unfolding verdict_of
 returns-then-sheet-gt2048 c = sym (pick_lt _ _ c.if-sheet-gt2048.true)
 
 pub walk-requires : goal.walk-requires
-walk-requires c κs =
+walk-requires c =
     let s = c.args.t1.now in
     let e : 0 ≡ length s - length s = omega arith in (
       omega arith,

@@ -9,4 +9,4 @@ returns-in-Bad c = c.failed.ensures ∙ rw c.read-1.given.1
 
 pub returns-in-Record : goal.returns-in-Record
 unfolding failed_at
-returns-in-Record c = c.failed-in-Record.ensures ∙ rw c.enum_told-1.given.1
+returns-in-Record c = c.failed-in-Record.ensures ∙ rw c.in-Record.is

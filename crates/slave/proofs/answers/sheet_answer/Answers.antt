@@ -6,7 +6,7 @@ use Rattle.slave.proofs.answers.sheet_answer.Goals as goal
 
 pub returns-in-Valid : goal.returns-in-Valid
 unfolding sheet_answer
-returns-in-Valid c = rw c.enum_told-1.given.1
+returns-in-Valid c = rw c.in-Valid.is
 
 pub returns-in-Faulty : goal.returns-in-Faulty
 unfolding sheet_answer

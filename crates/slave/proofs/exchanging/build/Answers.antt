@@ -10,25 +10,25 @@ use Rattle.slave.proofs.Fits.{valid_sized, lent_fits}
 use Rattle.slave.proofs.exchanging.build.Goals as goal
 
 pub stray-stray-requires : goal.stray-stray-requires
-stray-stray-requires c κs =
+stray-stray-requires c =
     let a = c.args in
     let p = c.requires in
     let m = length_most a.sheet.now a.layout (valid_sheet a.sheet.now a.layout p.valid) in
     omega (arith, p.asked)
 
 pub outcome-outcome-requires : goal.outcome-outcome-requires
-outcome-outcome-requires c κs =
+outcome-outcome-requires c =
     let a = c.args in
     valid_counted a.sheet.now a.layout (valid_sheet a.sheet.now a.layout c.requires.valid)
 
 pub head-requires : goal.head-requires
-head-requires c κs =
+head-requires c =
     let a = c.args in
     let p = c.requires in
     subst (Sized a.layout.form) (sym p.lent) (valid_sized a.sheet.now a.layout (valid_sheet a.sheet.now a.layout p.valid))
 
 pub fill_body-requires : goal.fill_body-requires
-fill_body-requires c κs =
+fill_body-requires c =
     let a = c.args in
     lent_fits a.sheet.now a.memory.now a.command.now a.reply.now a.layout a.st c.requires
     c.command_of-c.result c.stray-stray.result c.outcome-outcome.result c.head.new.1.0 c.outcome-outcome.ensures c.head.auto.1.0

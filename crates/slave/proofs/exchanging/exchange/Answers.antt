@@ -45,7 +45,7 @@ returns-then-refused-ne0 c =
     ∙ pick_differ _ _ (λ z. c.if-refused-ne0.true (c.refusal-refused.ensures ∙ z)))
 
 pub perform-told-requires : goal.perform-told-requires
-perform-told-requires c κs =
+perform-told-requires c =
     let q = no_refusal _ _ _ _ _ (sym c.refusal-refused.ensures ∙ c.if-refused-ne0.false) in (
       record {
         valid = sym c.check-verdict.ensures ∙ c.verdict-1.given.1;

@@ -29,7 +29,7 @@ at_told : (at place : ℕ) → at < 256 → (at + 256 * place) % 256 ≡ at
 at_told at place l = omega arith
 
 pub differs-at-requires : goal.differs-at-requires
-differs-at-requires c κs =
+differs-at-requires c =
     let a = c.args in
     let p = c.requires in
     let m = length_most a.sheet.now a.layout (valid_sheet a.sheet.now a.layout p.0.valid) in
@@ -49,7 +49,7 @@ returns-then-at-wanted c =
     λ i. came (place i) (performed (step i) (b.2 i))
 
 pub store-requires : goal.store-requires
-store-requires c κs =
+store-requires c =
     let a = c.args in
     let p = c.requires.0 in
     let o = c.build-built.result.outcome in
