@@ -9,13 +9,13 @@ use Rattle.difference.proofs.records.key.Goals as goal
 
 pub returns-in-2 : goal.returns-in-2
 unfolding key_at
-returns-in-2 c = c.le4_at.ensures ∙ sym (pick_eq _ _ c.in-2.keys1)
+returns-in-2 c = c.le4_at.ensures ∙ sym (pick_eq _ _ c.in-2.is)
 
 pub returns-in-3 : goal.returns-in-3
 unfolding key_at
 returns-in-3 c =
     let a = c.args in
-    let kind = c.in-3.keys2 in
+    let kind = c.in-3.is in
     c.le2.ensures
     ∙ ap₂ (λ (x y : ℕ). le2 x y) c.octet.ensures c.octet-in-3.ensures
     ∙ sym (le2_at_plus a.sheet.now a.at 1)
@@ -24,9 +24,9 @@ returns-in-3 c =
 pub returns-in-4 : goal.returns-in-4
 unfolding key_at
 returns-in-4 c =
-    let kind = c.in-4.keys3 in
+    let kind = c.in-4.is in
     c.octet-in-4.ensures ∙ sym (pick_key 2 _ _ kind refl ∙ pick_key 3 _ _ kind refl ∙ pick_eq _ _ kind)
 
 pub returns-in_default : goal.returns-in_default
 unfolding key_at
-returns-in_default c = sym (pick_ne _ _ c.in_default.rest.0.0.1 ∙ pick_ne _ _ c.in_default.rest.0.1 ∙ pick_ne _ _ c.in_default.rest.1)
+returns-in_default c = sym (pick_ne _ _ c.in_default-own.rest.0.0.1 ∙ pick_ne _ _ c.in_default-own.rest.0.1 ∙ pick_ne _ _ c.in_default-own.rest.1)

@@ -7,12 +7,12 @@ use Rattle.difference.proofs.records.place.Goals as goal
 
 pub returns-in-0 : goal.returns-in-0
 unfolding place_of pick
-returns-in-0 c = rw c.in-0.keys1
+returns-in-0 c = rw c.in-0.is
 
 pub returns-in-5 : goal.returns-in-5
 unfolding place_of pick
-returns-in-5 c = rw c.in-5.keys2
+returns-in-5 c = rw c.in-5.is
 
 pub returns-in_default : goal.returns-in_default
 unfolding place_of
-returns-in_default c = sym (pick_ne _ _ c.in_default.rest.0.1 ∙ pick_ne _ _ c.in_default.rest.1)
+returns-in_default c = sym (pick_ne _ _ c.in_default-own.rest.0.1 ∙ pick_ne _ _ c.in_default-own.rest.1)

@@ -12,32 +12,32 @@ neither p q = rw p (rw q)
 
 pub returns-in-0 : goal.returns-in-0
 unfolding size_of pick
-returns-in-0 c = rw c.in-0.keys1
+returns-in-0 c = rw c.in-0.is
 
 pub returns-in-1 : goal.returns-in-1
 unfolding size_of pick
-returns-in-1 c = rw c.in-1.keys2
+returns-in-1 c = rw c.in-1.is
 
 pub returns-in-2 : goal.returns-in-2
 unfolding size_of pick
-returns-in-2 c = rw c.in-2.keys3
+returns-in-2 c = rw c.in-2.is
 
 pub returns-in-3 : goal.returns-in-3
 unfolding size_of pick
-returns-in-3 c = rw c.in-3.keys4
+returns-in-3 c = rw c.in-3.is
 
 pub returns-in-4 : goal.returns-in-4
 unfolding size_of pick
-returns-in-4 c = rw c.in-4.keys5
+returns-in-4 c = rw c.in-4.is
 
 pub returns-in-5 : goal.returns-in-5
 unfolding size_of pick
-returns-in-5 c = rw c.in-5.keys6
+returns-in-5 c = rw c.in-5.is
 
 pub returns-in_default : goal.returns-in_default
 unfolding size_of
 returns-in_default c =
-    let n = c.in_default.rest in
+    let n = c.in_default-own.rest in
     sym
     (pick_ne _ _ n.0.0.0.0.0.1
     ∙ pick_no _ _ (neither (ne_eqb _ _ n.0.0.0.0.1) (ne_eqb _ _ n.1))

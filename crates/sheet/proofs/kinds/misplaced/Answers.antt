@@ -34,14 +34,14 @@ returns-then-first c = rw c.if-first.true
 
 pub returns-in-1 : goal.returns-in-1
 unfolding misplaced_of
-returns-in-1 c = rw (c.if-first.false, c.in-1.keys1)
+returns-in-1 c = rw (c.if-first.false, c.in-1.is)
 
 pub returns-in-2 : goal.returns-in-2
 unfolding misplaced_of
 returns-in-2 c =
     let so = c.args.so in
     let b = ltb 0 (so.parameters + so.items + so.tolerances + so.releases) in
-    rw (c.if-first.false, c.in-2.keys2)
+    rw (c.if-first.false, c.in-2.is)
     (sum_four so.parameters so.items so.tolerances so.releases ∙ sym (or_two (b || false || false) ∙ or_two b))
 
 pub returns-in-3 : goal.returns-in-3
@@ -49,34 +49,34 @@ unfolding misplaced_of
 returns-in-3 c =
     let so = c.args.so in
     let b = ltb 0 (so.items + so.tolerances + so.releases) in
-    rw (c.if-first.false, c.in-3.keys3)
+    rw (c.if-first.false, c.in-3.is)
     (sum_three so.items so.tolerances so.releases ∙ sym (or_no (b || false || false) ∙ or_two b))
 
 pub returns-in-4 : goal.returns-in-4
 unfolding misplaced_of
 returns-in-4 c =
     let so = c.args.so in
-    rw (c.if-first.false, c.in-4.keys4)
+    rw (c.if-first.false, c.in-4.is)
     (sum_two so.tolerances so.releases ∙ sym (or_two (ltb 0 (so.tolerances + so.releases))))
 
 pub returns-in-5 : goal.returns-in-5
 unfolding misplaced_of
-returns-in-5 c = rw (c.if-first.false, c.in-5.keys5)
+returns-in-5 c = rw (c.if-first.false, c.in-5.is)
 
 pub returns-in-6 : goal.returns-in-6
 unfolding misplaced_of
 returns-in-6 c =
     let so = c.args.so in
-    rw (c.if-first.false, c.in-6.keys6)
+    rw (c.if-first.false, c.in-6.is)
     (sum_two so.tolerances so.releases ∙ sym (or_no (ltb 0 (so.tolerances + so.releases))))
 
 pub returns-in-7 : goal.returns-in-7
 unfolding misplaced_of
-returns-in-7 c = rw (c.if-first.false, c.in-7.keys7)
+returns-in-7 c = rw (c.if-first.false, c.in-7.is)
 
 pub returns-in_default : goal.returns-in_default
 unfolding misplaced_of
 returns-in_default c =
     let kind = c.args.kind in
-    let r = c.in_default.rest in
+    let r = c.in_default-own.rest in
     rw (c.if-first.false, ne_eqb kind 1 r.0.0.0.0.0.0.1, ne_eqb kind 2 r.0.0.0.0.0.1, ne_eqb kind 3 r.0.0.0.0.1, ne_eqb kind 4 r.0.0.0.1, ne_eqb kind 5 r.0.0.1, ne_eqb kind 6 r.0.1, ne_eqb kind 7 r.1)

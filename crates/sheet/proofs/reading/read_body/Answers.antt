@@ -12,14 +12,14 @@ use Rattle.sheet.proofs.reading.read_body.Goals as goal
 pub returns-in-0 : goal.returns-in-0
 unfolding body_of size_of
 returns-in-0 c =
-    let k = c.in-0.keys1 in
+    let k = c.in-0.is in
     let p = c.requires.0 in
     sym (ap₂ (λ (n : ℕ) (r : Reading). whole n c.args.rest.now r) (pick_eq _ _ k) (pick_eq _ _ k) ∙ pick_ge _ _ p)
 
 pub returns-in-1 : goal.returns-in-1
 unfolding body_of size_of
 returns-in-1 c =
-    let k = c.in-1.keys2 in
+    let k = c.in-1.is in
     c.read_link.ensures
     ∙ sym
     (ap₂ (λ (n : ℕ) (r : Reading). whole n c.args.rest.now r)
@@ -29,7 +29,7 @@ returns-in-1 c =
 pub returns-in-2 : goal.returns-in-2
 unfolding body_of size_of
 returns-in-2 c =
-    let k = c.in-2.keys3 in
+    let k = c.in-2.is in
     c.read_region.ensures
     ∙ sym
     (ap₂ (λ (n : ℕ) (r : Reading). whole n c.args.rest.now r)
@@ -39,7 +39,7 @@ returns-in-2 c =
 pub returns-in-3 : goal.returns-in-3
 unfolding body_of size_of
 returns-in-3 c =
-    let k = c.in-3.keys4 in
+    let k = c.in-3.is in
     c.read_parameter.ensures
     ∙ sym
     (ap₂ (λ (n : ℕ) (r : Reading). whole n c.args.rest.now r)
@@ -49,7 +49,7 @@ returns-in-3 c =
 pub returns-in-4 : goal.returns-in-4
 unfolding body_of size_of
 returns-in-4 c =
-    let k = c.in-4.keys5 in
+    let k = c.in-4.is in
     c.read_item.ensures
     ∙ sym
     (ap₂ (λ (n : ℕ) (r : Reading). whole n c.args.rest.now r)
@@ -59,7 +59,7 @@ returns-in-4 c =
 pub returns-in-5 : goal.returns-in-5
 unfolding body_of size_of
 returns-in-5 c =
-    let k = c.in-5.keys6 in
+    let k = c.in-5.is in
     c.read_link-in-5.ensures
     ∙ sym
     (ap₂ (λ (n : ℕ) (r : Reading). whole n c.args.rest.now r)
@@ -72,7 +72,7 @@ no_link kind a b = rw (ne_eqb kind 1 a, ne_eqb kind 5 b)
 pub returns-in-6 : goal.returns-in-6
 unfolding body_of size_of
 returns-in-6 c =
-    let k = c.in-6.keys7 in
+    let k = c.in-6.is in
     c.read_tolerance.ensures
     ∙ sym
     (ap₂ (λ (n : ℕ) (r : Reading). whole n c.args.rest.now r)
@@ -82,7 +82,7 @@ returns-in-6 c =
 pub returns-in_default : goal.returns-in_default
 unfolding body_of size_of
 returns-in_default c =
-    let n = c.in_default.rest in
+    let n = c.in_default-own.rest in
     let no₄ = n.0.0.1 in
     let no₃ = n.0.0.0.1 in
     let no₂ = n.0.0.0.0.1 in

@@ -6,60 +6,60 @@ use Rattle.sheet.proofs.walk.fault_of.Goals as goal
 
 pub returns-in-11 : goal.returns-in-11
 unfolding fault_of
-returns-in-11 c = sym (pick_eq _ _ c.in-11.keys1)
+returns-in-11 c = sym (pick_eq _ _ c.in-11.is)
 
 pub returns-in-12 : goal.returns-in-12
 unfolding fault_of
 returns-in-12 c =
     sym
-    (pick_key 11 _ _ c.in-12.keys2 refl
-    ∙ pick_eq _ _ c.in-12.keys2)
+    (pick_key 11 _ _ c.in-12.is refl
+    ∙ pick_eq _ _ c.in-12.is)
 
 pub returns-in-13 : goal.returns-in-13
 unfolding fault_of
 returns-in-13 c =
     sym
-    (pick_key 11 _ _ c.in-13.keys3 refl
-    ∙ pick_key 12 _ _ c.in-13.keys3 refl
-    ∙ pick_eq _ _ c.in-13.keys3)
+    (pick_key 11 _ _ c.in-13.is refl
+    ∙ pick_key 12 _ _ c.in-13.is refl
+    ∙ pick_eq _ _ c.in-13.is)
 
 pub returns-in-14 : goal.returns-in-14
 unfolding fault_of
 returns-in-14 c =
     sym
-    (pick_key 11 _ _ c.in-14.keys4 refl
-    ∙ pick_key 12 _ _ c.in-14.keys4 refl
-    ∙ pick_key 13 _ _ c.in-14.keys4 refl
-    ∙ pick_eq _ _ c.in-14.keys4)
+    (pick_key 11 _ _ c.in-14.is refl
+    ∙ pick_key 12 _ _ c.in-14.is refl
+    ∙ pick_key 13 _ _ c.in-14.is refl
+    ∙ pick_eq _ _ c.in-14.is)
 
 pub returns-in-15 : goal.returns-in-15
 unfolding fault_of
 returns-in-15 c =
     sym
-    (pick_key 11 _ _ c.in-15.keys5 refl
-    ∙ pick_key 12 _ _ c.in-15.keys5 refl
-    ∙ pick_key 13 _ _ c.in-15.keys5 refl
-    ∙ pick_key 14 _ _ c.in-15.keys5 refl
-    ∙ pick_eq _ _ c.in-15.keys5)
+    (pick_key 11 _ _ c.in-15.is refl
+    ∙ pick_key 12 _ _ c.in-15.is refl
+    ∙ pick_key 13 _ _ c.in-15.is refl
+    ∙ pick_key 14 _ _ c.in-15.is refl
+    ∙ pick_eq _ _ c.in-15.is)
 
 pub returns-in-16 : goal.returns-in-16
 unfolding fault_of
 returns-in-16 c =
     sym
-    (pick_key 11 _ _ c.in-16.keys6 refl
-    ∙ pick_key 12 _ _ c.in-16.keys6 refl
-    ∙ pick_key 13 _ _ c.in-16.keys6 refl
-    ∙ pick_key 14 _ _ c.in-16.keys6 refl
-    ∙ pick_key 15 _ _ c.in-16.keys6 refl
-    ∙ pick_eq _ _ c.in-16.keys6)
+    (pick_key 11 _ _ c.in-16.is refl
+    ∙ pick_key 12 _ _ c.in-16.is refl
+    ∙ pick_key 13 _ _ c.in-16.is refl
+    ∙ pick_key 14 _ _ c.in-16.is refl
+    ∙ pick_key 15 _ _ c.in-16.is refl
+    ∙ pick_eq _ _ c.in-16.is)
 
 pub returns-in_default : goal.returns-in_default
 unfolding fault_of
 returns-in_default c =
     sym
-    (pick_ne _ _ c.in_default.rest.0.0.0.0.0.1
-    ∙ pick_ne _ _ c.in_default.rest.0.0.0.0.1
-    ∙ pick_ne _ _ c.in_default.rest.0.0.0.1
-    ∙ pick_ne _ _ c.in_default.rest.0.0.1
-    ∙ pick_ne _ _ c.in_default.rest.0.1
-    ∙ pick_ne _ _ c.in_default.rest.1)
+    (pick_ne _ _ c.in_default-own.rest.0.0.0.0.0.1
+    ∙ pick_ne _ _ c.in_default-own.rest.0.0.0.0.1
+    ∙ pick_ne _ _ c.in_default-own.rest.0.0.0.1
+    ∙ pick_ne _ _ c.in_default-own.rest.0.0.1
+    ∙ pick_ne _ _ c.in_default-own.rest.0.1
+    ∙ pick_ne _ _ c.in_default-own.rest.1)
