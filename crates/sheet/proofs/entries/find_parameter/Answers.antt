@@ -1,5 +1,5 @@
 -- `sheet::entries::find_parameter` meets its contract: the search from entry j on is the whole search, and at the end of the loop entry j decides.
-use Prim.Native.Nat.{◌+◌, ◌-◌}
+use Prim.Native.Nat.{◌+◌}
 use mathlib.Core.Path.{sym, ap, ◌∙◌}
 use native.Mathlib.Omega.{arith}
 use Rattle.sheet.specs.Entries.{parameter_at}
@@ -55,7 +55,7 @@ returns c =
     let r = c.parameter_at-parameter in
     let f = parameter_at a.sheet.now a.regions in
     elim c.loop-j-test.branch [
-      else-loop-j-test w ↦
+      | else-loop-j-test w ↦
           sym (l.invariant.1
           ∙ sought_past (λ (x : Parameter). x.number) SoughtParameter.Found SoughtParameter.Missing f l.j a.parameters a.number r.result r.ensures l.invariant.0 c.if-parameter-number.false
           ∙ sought_end (λ (x : Parameter). x.number) SoughtParameter.Found SoughtParameter.Missing f (l.j + 1) a.parameters a.number (omega (arith, w.loop-j-test.false)))

@@ -1,5 +1,5 @@
 -- The proof of the cycle of calls {walk}: the measure is the number of octets left, and the promise holds at every bound above it.
-use Rattle.std.proofs.Common.{sym, ap, ◌∙◌, arith}
+use Rattle.std.proofs.Common.{sym, ap, ◌∙◌}
 use Rattle.sheet.specs.Handed.{tells}
 use Rattle.sheet.specs.Walk.{counts}
 use Rattle.sheet.proofs.Walked.{counted_at, walked_fault, walked_end, asked_on, walked_on}
