@@ -33,7 +33,7 @@ differs-at-requires c =
     let a = c.args in
     let p = c.requires in
     let m = length_most a.sheet.now a.layout (valid_sheet a.sheet.now a.layout p.0.valid) in
-    let e = c.build-built.auto.1.1.1.1.1.0 ∙ p.0.lent in
+    let e = c.build-built.auto.reply ∙ p.0.lent in
     (omega (arith, p.1), omega arith)
 
 pub returns-then-at-wanted : goal.returns-then-at-wanted
@@ -65,7 +65,7 @@ returns c =
     let b = c.build-built.ensures in
     let d = c.differs-at.result in
     let found = c.differs-at.ensures in
-    let most = differs_most c.build-built.new.1.1.1.1.1.0 a.wanted.now in
+    let most = differs_most c.build-built.new.reply a.wanted.now in
     let all : d ≡ length a.wanted.now = omega (arith, found, c.if-at-wanted.false) in
     let e = found ∙ ap (λ (x : List ℕ). differs_at x a.wanted.now) b.2 in
     let at = at_told d c.build-built.result.place (omega arith) in
