@@ -3,7 +3,6 @@ use mathlib.Core.Bool.{not}
 use mathlib.Core.Path.{sym, ap, ap₂, ◌∙◌}
 use borrow.Author.Tests.{eq-eqb, ne_eqb}
 use Rattle.octets.proofs.Pick.{pick_yes, pick_no}
-use Rattle.link.specs.Steps.{fresh}
 use Rattle.link.specs.Stored.{octets_of}
 use Rattle.link.proofs.Back.{written}
 use Rattle.slave.specs.Answers.{sheet_answer}

@@ -43,9 +43,9 @@ returns-then-at-wanted c =
     let b = c.build-built.ensures in
     let d = c.differs-at.result in
     let e = c.differs-at.ensures ∙ ap (λ (x : List ℕ). differs_at x a.wanted.now) b.2 in
+    let place = place_told d c.build-built.result.place (omega arith) ∙ b.1 ∙ ap (λ (x : Outcome). place_of x.field) b.0 in
     let step = ap (λ (n : ℕ). stepped n a.state.now a.memory.now) (at_told d c.build-built.result.place (omega arith) ∙ e)
     ∙ sym (pick_ne _ _ (λ z. let k : d ≡ length a.wanted.now = e ∙ z in let w : ⊥ = omega arith in w)) in
-    let place = place_told d c.build-built.result.place (omega arith) ∙ b.1 ∙ ap (λ (x : Outcome). place_of x.field) b.0 in
     λ i. came (place i) (performed (step i) (b.2 i))
 
 pub store-requires : goal.store-requires
@@ -71,6 +71,6 @@ returns c =
     let at = at_told d c.build-built.result.place (omega arith) in
     let state = c.write.ensures ∙ written a.state.now o.next (read_valid _ _ _ _ c.requires.0.held).0 ∙ ap (λ (x : Outcome). octets_of x.next) b.0 in
     let memory = c.store.ensures ∙ ap (λ (x : Outcome). memory_after a.layout.form x.effect a.command.now a.memory.now) b.0 in
-    let step = (λ i. stepped ((at ∙ e) i) (state i) (memory i)) ∙ sym (pick_eq _ _ (sym e ∙ all)) in
     let place = place_told d c.build-built.result.place (omega arith) ∙ b.1 ∙ ap (λ (x : Outcome). place_of x.field) b.0 in
+    let step = (λ i. stepped ((at ∙ e) i) (state i) (memory i)) ∙ sym (pick_eq _ _ (sym e ∙ all)) in
     λ i. came (place i) (performed (step i) (b.2 i))
