@@ -1,5 +1,4 @@
 -- `difference::merging::merge` meets its contract: between two turns the pass stands as `Left` says.
-use Prim.Native.Nat.{◌-◌}
 use mathlib.Core.Bool.{Bool, true, false, not, true≢false}
 use mathlib.Core.Path.{◌≡◌, refl, sym, ◌∙◌}
 use native.Mathlib.Omega.{arith}
