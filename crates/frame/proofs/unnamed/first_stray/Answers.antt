@@ -1,5 +1,4 @@
 -- `frame::unnamed::first_stray` meets its contract: the k octets passed may be what they are, so the rest decides.
-use Prim.Native.Nat.{◌-◌}
 use mathlib.Core.Path.{refl, sym, ◌∙◌}
 use borrow.Author.Tests.{not-true, not-false}
 use Rattle.frame.specs.Unnamed.{names_for}
