@@ -93,17 +93,17 @@ unfolding has_all
 all_mapped xs ys g a zero = refl
 all_mapped xs ys g a (suc n) = ap₂ ◌&&◌ (has_mapped xs ys g a) (all_mapped xs ys g (suc a) n)
 
-held_at : (xs ys : List Cell) → Granting xs ys → (m : List ℕ) (a : ℕ) → held_at xs m a ≡ held_at ys m a
+held_at_lem : (xs ys : List Cell) → Granting xs ys → (m : List ℕ) (a : ℕ) → held_at xs m a ≡ held_at ys m a
 unfolding held_at
-held_at [] [] g m a = refl
-held_at [] (y ∷ ys) g m a = absurd g
-held_at (x ∷ xs) [] g m a = absurd g
-held_at (x ∷ xs) (y ∷ ys) g m a = ap₂ (λ (n k : ℕ). when (eqb n a) (get_or m 0 0) k) g.0 (held_at xs ys g.2 (drop 1 m) a)
+held_at_lem [] [] g m a = refl
+held_at_lem [] (y ∷ ys) g m a = absurd g
+held_at_lem (x ∷ xs) [] g m a = absurd g
+held_at_lem (x ∷ xs) (y ∷ ys) g m a = ap₂ (λ (n k : ℕ). when (eqb n a) (get_or m 0 0) k) g.0 (held_at_lem xs ys g.2 (drop 1 m) a)
 
 pub held_alike : (xs ys : List Cell) → Granting xs ys → (m : List ℕ) (a n : ℕ) → held xs m a n ≡ held ys m a n
 unfolding held
 held_alike xs ys g m a zero = refl
-held_alike xs ys g m a (suc n) = ap₂ (λ (x : ℕ) (l : List ℕ). x ∷ l) (held_at xs ys g m a) (held_alike xs ys g m (suc a) n)
+held_alike xs ys g m a (suc n) = ap₂ (λ (x : ℕ) (l : List ℕ). x ∷ l) (held_at_lem xs ys g m a) (held_alike xs ys g m (suc a) n)
 
 pub stored_alike : (ps : List Piece) (xs ys : List Cell) → Granting xs ys → (m : List ℕ) → stored ps xs m ≡ stored ps ys m
 unfolding stored

@@ -218,7 +218,8 @@ goes_on h sheet s m last reply (d ∷ ds) k (a, f, stays, rest) =
     let copies = eq-eqb (sn h c) (rsn s) (f.gives_back ∙ sym k.its_rsn) in
     let go = passes (eqb (link s) 3) (eqb (mn_known s) 1) (ap₂ ◌&&◌ follows copies) in
     let next = passed h sheet s m c d.lent a k.watched.synchronous go stays in
-    (next.watched.synchronous, passed_shown h sheet s m c d.lent a go, goes_on h sheet _ _ c _ ds next rest)
+    let x = exchange_of sheet s m c d.lent in
+    (next.watched.synchronous, passed_shown h sheet s m c d.lent a go, goes_on h sheet x.state x.memory c x.reply ds next rest)
 
 pub master_never_fails : MasterNeverFails
 master_never_fails h sheet s m c r a three go stays ds all =

@@ -157,11 +157,11 @@ unfolding held
 held_length cs m a zero = refl
 held_length cs m a (suc n) = ap suc (held_length cs m (suc a) n)
 
-held_at : (cs : List Cell) (m : List ℕ) (a n j : ℕ) → j < n → get_or (held cs m a n) j 0 ≡ held_at cs m (a + j)
+held_at_lem : (cs : List Cell) (m : List ℕ) (a n j : ℕ) → j < n → get_or (held cs m a n) j 0 ≡ held_at cs m (a + j)
 unfolding held
-held_at cs m a zero j l = absurd (let w : ⊥ = omega arith in w)
-held_at cs m a (suc n) zero l = ap (held_at cs m) (let z : a ≡ a + 0 = omega arith in z)
-held_at cs m a (suc n) (suc j) l = held_at cs m (suc a) n j (omega arith) ∙ ap (held_at cs m) (let z : suc a + j ≡ a + suc j = omega arith in z)
+held_at_lem cs m a zero j l = absurd (let w : ⊥ = omega arith in w)
+held_at_lem cs m a (suc n) zero l = ap (held_at cs m) (let z : a ≡ a + 0 = omega arith in z)
+held_at_lem cs m a (suc n) (suc j) l = held_at_lem cs m (suc a) n j (omega arith) ∙ ap (held_at cs m) (let z : suc a + j ≡ a + suc j = omega arith in z)
 
 pub stored_length : (ps : List Piece) (cs : List Cell) (m : List ℕ) → length m ≡ length cs → length (stored ps cs m) ≡ length m
 unfolding stored
@@ -229,7 +229,7 @@ module _ (rs : List Area) (apart : Apart' 0 rs) (m : List ℕ) (whole : length m
           part_at m place n j k'
           ∙ sym (held_at_is (cells rs) m (a + j) (place + j) t.1 t.0
           (λ i q e. let f = rises 0 rs apart i (place + j) q t.1 in let g = t.0 in let w : ⊥ = omega arith in w))
-          ∙ sym (held_at (cells rs) m a n j k'))
+          ∙ sym (held_at_lem (cells rs) m a n j k'))
 
   lies_out : (o : List ℕ) (k old : ℕ) → length o ≡ n → n < 1 → lies (piece a o) k old ≡ old
   lies_out o k old e l = ⊎_elim (λ (u : k < a). lies_below (piece a o) k old u) (λ (u : a ≤ k). lies_past (piece a o) k old (omega arith)) (lt_or_le k a)

@@ -38,7 +38,7 @@ loop-k-preserved c =
     let l = t.loop-k in
     let a = t.args in (
       omega (arith, t.loop-k-test.true),
-      call.lay.auto.0 ∙ l.invariant.1,
+      call.lay.auto.list ∙ l.invariant.1,
       l.invariant.2
           ∙ laid_next a.sheet.now a.at a.from a.n l.list l.k t.loop-k-test.true
           ∙ ap (λ (d : List ℕ). laid d (a.at + (l.k + 1)) (cut a.sheet.now (a.from + (l.k + 1)) (a.n - (l.k + 1))))

@@ -1,5 +1,4 @@
 -- `difference::merging::merge` meets its contract: between two turns the pass stands as `Left` says.
-use Prim.Native.Nat.{◌-◌}
 use mathlib.Core.Bool.{Bool, true, false, not, true≢false}
 use mathlib.Core.Path.{◌≡◌, refl, sym, ◌∙◌}
 use native.Mathlib.Omega.{arith}
@@ -37,7 +36,7 @@ loop-list-smaller c =
     let one = two in
     let a = one.args in
     left_less a.first.now a.second.now a.list.now l.list _ l.i l.j l.at call.take_turn-next.result
-    (λ k. (one.shared_slice_known-1.given k).fits) (λ k. (two.shared_slice_known-2-1.given k).fits) l.invariant
+    (λ k. (c.type_inv.first k).fits) (λ k. (c.type_inv.second k).fits) l.invariant
     (not_not _ _ test.more.ensures test.loop-list-test.true) call.take_turn-next.ensures
 
 pub loop-list-preserved : goal.loop-list-preserved
@@ -49,7 +48,7 @@ loop-list-preserved c =
     let one = two in
     let a = one.args in
     left_next a.first.now a.second.now a.list.now l.list _ l.i l.j l.at call.take_turn-next.result
-    (λ k. (one.shared_slice_known-1.given k).fits) (λ k. (two.shared_slice_known-2-1.given k).fits) l.invariant
+    (λ k. (c.type_inv.first k).fits) (λ k. (c.type_inv.second k).fits) l.invariant
     (not_not _ _ test.more.ensures test.loop-list-test.true) call.take_turn-next.ensures
 
 pub shape_of-list : goal.shape_of-list

@@ -33,7 +33,7 @@ returns-then-x-y c =
     let ranks = test in
     let a = ranks.args in
     let h = below _ _ _ _ ranks.rank-x.ensures ranks.rank-y.ensures test.if-x-y.true in
-    ap (λ (n : ℕ). turned (places_of n a.j call.gone-behind.result) call.gone-behind.new.0) (on_by a.first.now a.i _ _ c.kind_at.ensures c.size.ensures)
+    ap (λ (n : ℕ). turned (places_of n a.j call.gone-behind.result) call.gone-behind.new.list) (on_by a.first.now a.i _ _ c.kind_at.ensures c.size.ensures)
     ∙ turned_by a.list.now _ _ a.at _ _ _ call.gone-behind.ensures
     ∙ ap (turns_to a.list.now a.at) (sym (step_gone a.first.now a.i a.second.now a.j h))
 
@@ -50,7 +50,7 @@ returns-then-y-x c =
     let ranks = test in
     let a = ranks.args in
     let h = below _ _ _ _ ranks.rank-y.ensures ranks.rank-x.ensures test.if-y-x.true in
-    ap (λ (n : ℕ). turned (places_of a.i n call.new-behind.result) call.new-behind.new.0) (on_by a.second.now a.j _ _ c.kind_at-then-y-x.ensures c.size-then-y-x.ensures)
+    ap (λ (n : ℕ). turned (places_of a.i n call.new-behind.result) call.new-behind.new.list) (on_by a.second.now a.j _ _ c.kind_at-then-y-x.ensures c.size-then-y-x.ensures)
     ∙ turned_by a.list.now _ _ a.at _ _ _ call.new-behind.ensures
     ∙ ap (turns_to a.list.now a.at) (sym (step_new a.first.now a.i a.second.now a.j h))
 
@@ -74,7 +74,7 @@ returns c =
     let a = ranks.args in
     let g = upto _ _ _ _ ranks.rank-y.ensures ranks.rank-x.ensures test.if-x-y.false in
     let h = upto _ _ _ _ ranks.rank-x.ensures ranks.rank-y.ensures test.if-y-x.false in
-    ap₂ (λ (m n : ℕ). turned (places_of m n call.both-behind.result) call.both-behind.new.0)
+    ap₂ (λ (m n : ℕ). turned (places_of m n call.both-behind.result) call.both-behind.new.list)
     (on_by a.first.now a.i _ _ c.kind_at-2.ensures c.size-2.ensures)
     (on_by a.second.now a.j _ _ c.kind_at-3.ensures c.size-3.ensures)
     ∙ turned_by a.list.now _ _ a.at _ _ _ call.both-behind.ensures

@@ -1,7 +1,6 @@
 -- `difference::records::first_width` meets its contract, kind by kind.
-use mathlib.Core.Path.{sym, ◌∙◌}
+use native.Mathlib.Omega.{arith}
 use Rattle.octets.specs.Pick.{pick}
-use Rattle.octets.proofs.Pick.{pick_ne}
 use Rattle.difference.specs.Records.{first_width}
 use Rattle.difference.proofs.records.first_width.Goals as goal
 
@@ -14,5 +13,5 @@ unfolding first_width pick
 returns-in-3 c = rw c.in-3.is
 
 pub returns-in_default : goal.returns-in_default
-unfolding first_width
-returns-in_default c = sym (pick_ne _ _ c.in_default-own.rest.0.1 ∙ pick_ne _ _ c.in_default-own.rest.1)
+unfolding first_width pick
+returns-in_default c = grind arith

@@ -1,9 +1,11 @@
 -- `difference::records::key` meets its contract, kind by kind.
+use native.Mathlib.Omega.{arith}
 use mathlib.Core.Path.{sym, refl, ap₂, ◌∙◌}
 use Prim.Native.Nat.{ℕ}
 use Rattle.octets.specs.Numbers.{le2}
 use Rattle.octets.proofs.Numbers.{le2_at_plus}
-use Rattle.octets.proofs.Pick.{pick_eq, pick_ne, pick_key}
+use Rattle.octets.specs.Pick.{pick}
+use Rattle.octets.proofs.Pick.{pick_eq, pick_key}
 use Rattle.difference.specs.Records.{key_at}
 use Rattle.difference.proofs.records.key.Goals as goal
 
@@ -28,5 +30,5 @@ returns-in-4 c =
     c.octet-in-4.ensures ∙ sym (pick_key 2 _ _ kind refl ∙ pick_key 3 _ _ kind refl ∙ pick_eq _ _ kind)
 
 pub returns-in_default : goal.returns-in_default
-unfolding key_at
-returns-in_default c = sym (pick_ne _ _ c.in_default-own.rest.0.0.1 ∙ pick_ne _ _ c.in_default-own.rest.0.1 ∙ pick_ne _ _ c.in_default-own.rest.1)
+unfolding key_at pick
+returns-in_default c = grind arith

@@ -1,7 +1,6 @@
 -- `difference::records::place` meets its contract, kind by kind.
-use mathlib.Core.Path.{sym, ◌∙◌}
+use native.Mathlib.Omega.{arith}
 use Rattle.octets.specs.Pick.{pick}
-use Rattle.octets.proofs.Pick.{pick_ne}
 use Rattle.difference.specs.Records.{place_of}
 use Rattle.difference.proofs.records.place.Goals as goal
 
@@ -14,5 +13,5 @@ unfolding place_of pick
 returns-in-5 c = rw c.in-5.is
 
 pub returns-in_default : goal.returns-in_default
-unfolding place_of
-returns-in_default c = sym (pick_ne _ _ c.in_default-own.rest.0.1 ∙ pick_ne _ _ c.in_default-own.rest.1)
+unfolding place_of pick
+returns-in_default c = grind arith

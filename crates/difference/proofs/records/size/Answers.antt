@@ -1,14 +1,8 @@
 -- `difference::records::size` meets its contract, kind by kind.
-use mathlib.Core.Bool.{Bool, false, ◌||◌}
-use mathlib.Core.Path.{◌≡◌, sym, ◌∙◌}
-use borrow.Author.Tests.{ne_eqb}
+use native.Mathlib.Omega.{arith}
 use Rattle.octets.specs.Pick.{pick}
-use Rattle.octets.proofs.Pick.{pick_ne, pick_no}
 use Rattle.sheet.specs.Kinds.{size_of}
 use Rattle.difference.proofs.records.size.Goals as goal
-
-neither : {a b : Bool} → a ≡ false → b ≡ false → (a || b) ≡ false
-neither p q = rw p (rw q)
 
 pub returns-in-0 : goal.returns-in-0
 unfolding size_of pick
@@ -35,12 +29,5 @@ unfolding size_of pick
 returns-in-5 c = rw c.in-5.is
 
 pub returns-in_default : goal.returns-in_default
-unfolding size_of
-returns-in_default c =
-    let n = c.in_default-own.rest in
-    sym
-    (pick_ne _ _ n.0.0.0.0.0.1
-    ∙ pick_no _ _ (neither (ne_eqb _ _ n.0.0.0.0.1) (ne_eqb _ _ n.1))
-    ∙ pick_ne _ _ n.0.0.0.1
-    ∙ pick_ne _ _ n.0.0.1
-    ∙ pick_ne _ _ n.0.1)
+unfolding size_of pick
+returns-in_default c = grind arith

@@ -14,7 +14,7 @@ returns-in_default c =
     let check = c in
     let a = check.args in
     ap (λ (x : Answer). listed x a.list.now) (c.sheet_answer.ensures ∙ ap sheet_answer check.check-verdict.ensures)
-    ∙ sym (on_faulty _ _ _ _ _ (sym check.check-verdict.ensures ∙ c.enum_told-in_default-1.given.1))
+    ∙ sym (on_faulty _ _ _ _ _ (sym check.check-verdict.ensures ∙ c.in_default.is))
 
 pub returns-in_default-other : goal.returns-in_default-other
 unfolding difference_of
@@ -25,7 +25,7 @@ returns-in_default-other c =
     ap (λ (x : Answer). listed x a.list.now) (c.second_answer.ensures ∙ ap (λ (v : Verdict). second_answer (sheet_answer v)) second.check-other.ensures)
     ∙ sym
     (on_valid _ _ _ _ (sym first.check-verdict.ensures ∙ second.in-Valid.is)
-    ∙ on_faulty _ _ _ _ _ (sym second.check-other.ensures ∙ c.enum_told-in_default-other-1.given.1))
+    ∙ on_faulty _ _ _ _ _ (sym second.check-other.ensures ∙ c.in_default-other.is))
 
 pub enter-requires : goal.enter-requires
 enter-requires c =

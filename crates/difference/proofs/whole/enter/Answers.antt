@@ -1,5 +1,5 @@
 -- `difference::whole::enter` meets its contract: the first pass lays nothing, and tells how long the list is.
-use Prim.Native.Nat.{ℕ, ◌+◌, ◌-◌, ◌<◌, ◌≤◌}
+use Prim.Native.Nat.{ℕ, ◌-◌, ◌<◌, ◌≤◌}
 use mathlib.Core.List.{List, [], ◌∷◌, ◌++◌}
 use mathlib.Core.Path.{◌≡◌, refl, sym, ap, ap₂, ◌∙◌}
 use native.Mathlib.Omega.{arith}
@@ -48,7 +48,7 @@ pub returns-then-list-needed : goal.returns-then-list-needed
 returns-then-list-needed c =
     let call = c in
     let a = call.args in
-    too_long _ a.list.now _ _ (tells_length _ _ _ _ call.merge-needed.ensures) (none_lent a.list.now call.merge-needed.new.0 call.merge-needed.auto.0) c.if-list-needed.true
+    too_long _ a.list.now _ _ (tells_length _ _ _ _ call.merge-needed.ensures) (none_lent a.list.now call.merge-needed.new.list call.merge-needed.auto.list) c.if-list-needed.true
 
 pub overflow_cast-result-2 : goal.overflow_cast-result-2
 overflow_cast-result-2 c =
@@ -64,5 +64,5 @@ returns c =
     let test = last in
     let first = test in
     let a = first.args in
-    whole _ a.list.now _ _ _ _ (tells_length _ _ _ _ first.merge-needed.ensures) (none_lent a.list.now first.merge-needed.new.0 first.merge-needed.auto.0) test.if-list-needed.false
+    whole _ a.list.now _ _ _ _ (tells_length _ _ _ _ first.merge-needed.ensures) (none_lent a.list.now first.merge-needed.new.list first.merge-needed.auto.list) test.if-list-needed.false
     last.merge-length.ensures

@@ -15,7 +15,7 @@ carry-requires c =
     let a = c.args in
     let p = c.requires in
     let e = p.0 in
-    let f = subst (λ (x : Effect). Fitting a.form x (length a.reply.now) (length a.memory.now) (length a.sheet.now)) c.effect-1.given.1 p.1 in
+    let f = subst (λ (x : Effect). Fitting a.form x (length a.reply.now) (length a.memory.now) (length a.sheet.now)) c.in-Reads.is p.1 in
     let w = end_within a.form (length a.reply.now) in
     (f.1, omega (arith, f.0), omega (arith, f.0))
 
@@ -25,7 +25,7 @@ carry-requires-in-Writes c =
     let a = c.args in
     let p = c.requires in
     let e = p.0 in
-    let f = subst (λ (x : Effect). Fitting a.form x (length a.reply.now) (length a.memory.now) (length a.sheet.now)) c.effect-in-Writes-1.given.1 p.1 in
+    let f = subst (λ (x : Effect). Fitting a.form x (length a.reply.now) (length a.memory.now) (length a.sheet.now)) c.in-Writes.is p.1 in
     let w = end_within a.form (length a.reply.now) in
     (omega (arith, f.0, c.data_from.ensures), omega (arith, f.0), omega (arith, f.0))
 
@@ -35,7 +35,7 @@ identify-requires c =
     let a = c.args in
     let p = c.requires in
     let e = p.0 in
-    let f = subst (λ (x : Effect). Fitting a.form x (length a.reply.now) (length a.memory.now) (length a.sheet.now)) c.effect-in-Identifies-1.given.1 p.1 in
+    let f = subst (λ (x : Effect). Fitting a.form x (length a.reply.now) (length a.memory.now) (length a.sheet.now)) c.in-Identifies.is p.1 in
     let w = end_within a.form (length a.reply.now) in
     let d = c.fields_end.ensures in
     let g = fields_behind a.form in
@@ -47,7 +47,7 @@ tell_alarms-requires c =
     let a = c.args in
     let p = c.requires in
     let e = p.0 in
-    let f = subst (λ (x : Effect). Fitting a.form x (length a.reply.now) (length a.memory.now) (length a.sheet.now)) c.effect-in-Alarms-1.given.1 p.1 in
+    let f = subst (λ (x : Effect). Fitting a.form x (length a.reply.now) (length a.memory.now) (length a.sheet.now)) c.in-Alarms.is p.1 in
     let w = end_within a.form (length a.reply.now) in
     omega (arith, c.alarms_at.ensures)
 
@@ -69,30 +69,28 @@ returns-in-Quiet c = rw c.in-Quiet.is
 
 pub returns-in-Reads : goal.returns-in-Reads
 unfolding body_of
-returns-in-Reads c = rw c.effect-1.given.1 c.carry.ensures
+returns-in-Reads c = rw c.in-Reads.is c.carry.ensures
 
 pub returns-in-Writes : goal.returns-in-Writes
 unfolding body_of
 returns-in-Writes c =
     let a = c.args in
-    let r = c.effect-in-Writes-1.given.0 in
-    rw c.effect-in-Writes-1.given.1
-    (c.carry-in-Writes.ensures ∙ ap (λ (k : ℕ). carried a.form r.0 (part a.command.now k r.1.1.0) a.command.now a.reply.now) c.data_from.ensures)
+    rw c.in-Writes.is
+    (c.carry-in-Writes.ensures ∙ ap (λ (k : ℕ). carried a.form c.in-Writes.by (part a.command.now k c.in-Writes.n) a.command.now a.reply.now) c.data_from.ensures)
 
 pub returns-in-Identifies : goal.returns-in-Identifies
 unfolding body_of
 returns-in-Identifies c =
     let a = c.args in
-    let r = c.effect-in-Identifies-1.given.0 in
-    rw c.effect-in-Identifies-1.given.1
+    rw c.in-Identifies.is
     (c.identify.ensures
-    ∙ ap (λ (k : ℕ). put_at (echoed a.command.now 4 (k - 4) a.reply.now) k (part a.sheet.now r.0 r.1.0)) c.fields_end.ensures)
+    ∙ ap (λ (k : ℕ). put_at (echoed a.command.now 4 (k - 4) a.reply.now) k (part a.sheet.now c.in-Identifies.at c.in-Identifies.n)) c.fields_end.ensures)
 
 pub returns-in-Alarms : goal.returns-in-Alarms
 unfolding body_of
 returns-in-Alarms c =
     let a = c.args in
-    rw c.effect-in-Alarms-1.given.1 (rw (← c.alarms_at.ensures) c.tell_alarms.ensures)
+    rw c.in-Alarms.is (rw (← c.alarms_at.ensures) c.tell_alarms.ensures)
 
 pub returns-in-Connects : goal.returns-in-Connects
 unfolding body_of

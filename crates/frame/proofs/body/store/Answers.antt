@@ -13,7 +13,7 @@ pub enter-requires : goal.enter-requires
 unfolding Storing
 enter-requires c =
     let a = c.args in
-    let f = subst (λ (x : Effect). Storing a.form x (length a.command.now) (length a.memory.now)) c.effect-1.given.1 c.requires in
+    let f = subst (λ (x : Effect). Storing a.form x (length a.command.now) (length a.memory.now)) c.in-Writes.is c.requires in
     let w = end_within a.form (length a.command.now) in
     (omega (arith, f.0, c.data_from.ensures), f.1)
 
@@ -29,9 +29,8 @@ pub returns-in-Writes : goal.returns-in-Writes
 unfolding memory_after
 returns-in-Writes c =
     let a = c.args in
-    let r = c.effect-1.given.0 in
-    rw c.effect-1.given.1
-    (c.enter.ensures ∙ ap (λ (k : ℕ). put_at a.memory.now r.1.0 (part a.command.now k r.1.1.0)) c.data_from.ensures)
+    rw c.in-Writes.is
+    (c.enter.ensures ∙ ap (λ (k : ℕ). put_at a.memory.now c.in-Writes.place (part a.command.now k c.in-Writes.n)) c.data_from.ensures)
 
 pub returns-in-Identifies : goal.returns-in-Identifies
 unfolding memory_after

@@ -19,5 +19,5 @@ unfolding put_at
 returns c =
     let a = c.args in
     let vs = a.code ∷ a.second ∷ a.word % 256 ∷ a.word / 256 ∷ [] in
-    let z = c.zero.new.0 in
+    let z = c.zero.new.d in
     sets-eq vs z 0 (omega arith) ∙ ap (λ (x : List ℕ). put_at x 0 vs) c.zero.ensures

@@ -23,7 +23,7 @@ unfolding Sized
 last-requires c =
     let a = c.args in
     let s = subst (λ (x : Form). Sized x (length a.reply.now)) c.in-Short.is c.requires in
-    c.four-in-Short.auto.0 ∙ s
+    c.four-in-Short.auto.reply ∙ s
 
 pub returns-in-Enhanced : goal.returns-in-Enhanced
 unfolding begun_of head_of

@@ -53,8 +53,8 @@ returns-in-AlarmMode c = sym (ap place_of c.in-AlarmMode.is)
 
 pub returns-in-Stray : goal.returns-in-Stray
 unfolding place_of
-returns-in-Stray c = sym (ap place_of c.field-1.given.1)
+returns-in-Stray c = sym (ap place_of c.in-Stray.is)
 
 pub returns-in-Span : goal.returns-in-Span
 unfolding place_of
-returns-in-Span c = sym (ap place_of c.field-in-Span-1.given.1)
+returns-in-Span c = sym (ap place_of c.in-Span.is)

@@ -26,4 +26,4 @@ returns c e =
     (c.zero_between.ensures p₃.1)
     (subst (λ (n : ℕ). (k : ℕ) → n ≤ k → k < a.written.first → get_or a.command.now k 0 ≡ 0) first (c.zero_between-2.ensures p₂.1))
     last
-    (subst (λ (n : ℕ). (k : ℕ) → c.later-last.result ≤ k → k < n → get_or a.command.now k 0 ≡ 0) c.end_of_lem.ensures (c.zero_between-3.ensures p₁.1))
+    (subst (λ (n : ℕ). (k : ℕ) → c.later-last.result ≤ k → k < n → get_or a.command.now k 0 ≡ 0) c.end_of.ensures (c.zero_between-3.ensures p₁.1))

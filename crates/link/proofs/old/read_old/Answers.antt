@@ -26,7 +26,7 @@ returns-then-not-valid c =
     sym
     (pick_no _ _ (ap not (eq-eqb _ _ c.if-state-ne-OLD_LENGTH.false))
     ∙ pick_no _ _ (ap not (eq-eqb _ _ (sym c.octet.ensures ∙ c.if-octet-ne17.false)))
-    ∙ pick_yes _ _ (ap not (sym (c.valid.ensures ∙ ap (λ (st : LinkState). valid_of st c.args.l 0) c.fields-st.ensures)) ∙ c.if-not-valid.true))
+    ∙ pick_yes _ _ (ap not (sym (c.valid.ensures ∙ ap (λ (st : LinkState). valid_of st c.args.l 0) c.fields-st.ensures)) ∙ ap not c.if-not-valid.true))
 
 pub returns : goal.returns
 unfolding old_state_of
@@ -35,4 +35,4 @@ returns c =
     ∙ sym
     (pick_no _ _ (ap not (eq-eqb _ _ c.if-state-ne-OLD_LENGTH.false))
     ∙ pick_no _ _ (ap not (eq-eqb _ _ (sym c.octet.ensures ∙ c.if-octet-ne17.false)))
-    ∙ pick_no _ _ (ap not (sym (c.valid.ensures ∙ ap (λ (st : LinkState). valid_of st c.args.l 0) c.fields-st.ensures)) ∙ c.if-not-valid.false))
+    ∙ pick_no _ _ (ap not (sym (c.valid.ensures ∙ ap (λ (st : LinkState). valid_of st c.args.l 0) c.fields-st.ensures)) ∙ ap not c.if-not-valid.false))

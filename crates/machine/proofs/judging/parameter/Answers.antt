@@ -14,20 +14,20 @@ find_parameter-found-requires c =
 
 pub returns-in_default : goal.returns-in_default
 unfolding parameter_of parameter_data
-returns-in_default c = sym (ap (parameter_data c.args.writes (regions_of c.args.sheet.now c.args.layout.regions) c.args.layout c.args.st c.args.c) (sym c.find_parameter-found.ensures ∙ c.enum_told-1.given.1))
+returns-in_default c = sym (ap (parameter_data c.args.writes (regions_of c.args.sheet.now c.args.layout.regions) c.args.layout c.args.st c.args.c) (sym c.find_parameter-found.ensures ∙ c.in_default.is))
 
 pub returns-then-c-p : goal.returns-then-c-p
 unfolding parameter_of parameter_data
 returns-then-c-p c =
     sym
-    (ap (parameter_data c.args.writes (regions_of c.args.sheet.now c.args.layout.regions) c.args.layout c.args.st c.args.c) (sym c.find_parameter-found.ensures ∙ c.found-1.given.1)
+    (ap (parameter_data c.args.writes (regions_of c.args.sheet.now c.args.layout.regions) c.args.layout c.args.st c.args.c) (sym c.find_parameter-found.ensures ∙ c.in-Found.is)
     ∙ pick_differ _ _ c.if-c-p.true)
 
 pub returns-then-room-c : goal.returns-then-room-c
 unfolding parameter_of parameter_data
 returns-then-room-c c =
     sym
-    (ap (parameter_data c.args.writes (regions_of c.args.sheet.now c.args.layout.regions) c.args.layout c.args.st c.args.c) (sym c.find_parameter-found.ensures ∙ c.found-1.given.1)
+    (ap (parameter_data c.args.writes (regions_of c.args.sheet.now c.args.layout.regions) c.args.layout c.args.st c.args.c) (sym c.find_parameter-found.ensures ∙ c.in-Found.is)
     ∙ pick_same _ _ c.if-c-p.false
     ∙ pick_lt _ _ (subst (λ (n : ℕ). n < c.args.c.size) c.room.ensures c.if-room-c.true))
 
@@ -36,7 +36,7 @@ unfolding parameter_of parameter_data
 returns c =
     c.granted.ensures
     ∙ sym
-    (ap (parameter_data c.args.writes (regions_of c.args.sheet.now c.args.layout.regions) c.args.layout c.args.st c.args.c) (sym c.find_parameter-found.ensures ∙ c.found-1.given.1)
+    (ap (parameter_data c.args.writes (regions_of c.args.sheet.now c.args.layout.regions) c.args.layout c.args.st c.args.c) (sym c.find_parameter-found.ensures ∙ c.in-Found.is)
     ∙ pick_same _ _ c.if-c-p.false
     ∙ pick_ge _ _ (subst (λ (n : ℕ). c.args.c.size ≤ n) c.room.ensures c.if-room-c.false))
 

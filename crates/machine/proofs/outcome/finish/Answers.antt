@@ -10,10 +10,10 @@ pub returns-in-Refused : goal.returns-in-Refused
 unfolding finished
 returns-in-Refused c =
     let a = c.args in
-    rw c.judgement-1.given.1
-    (ap (comes_to c.judgement-1.given.0.0 c.judgement-1.given.0.1.0 Quiet)
+    rw c.in-Refused.is
+    (ap (comes_to c.in-Refused.alarm c.in-Refused.field Quiet)
     (c.count.ensures ∙ ap (λ (x : LinkState). counting a.st x (mn_of a.c)) c.latched.ensures))
 
 pub returns-in-Accepted : goal.returns-in-Accepted
 unfolding finished
-returns-in-Accepted c = rw c.judgement-in-Accepted-1.given.1 (ap (comes_to 0 Whole c.judgement-in-Accepted-1.given.0.0) c.count-in-Accepted.ensures)
+returns-in-Accepted c = rw c.in-Accepted.is (ap (comes_to 0 Whole c.in-Accepted.effect) c.count-in-Accepted.ensures)

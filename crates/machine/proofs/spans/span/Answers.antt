@@ -36,8 +36,7 @@ returns-in_default c =
     let a = c.args in
     let rs = regions_of a.sheet.now a.regions in
     let e = c.granted-asked.ensures in
-    let g = c.enum_told-in_default-1.given in
-    let h = granted_right a.writes rs a.by a.address a.size a.st g.0.0 g.0.1.0 (sym e ∙ g.1) in
+    let h = granted_right a.writes rs a.by a.address a.size a.st c.in_default.field-0 c.in_default.field-1 (sym e ∙ c.in_default.is) in
     e ∙ sym (pick_no _ _ (ap not (span_mapped rs (right_of a.writes a.st.link) a.address a.size h)))
 
 pub returns-then-has : goal.returns-then-has

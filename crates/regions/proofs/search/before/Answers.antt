@@ -2,7 +2,6 @@
 -- inside the octet stays.
 use Prim.Native.Nat.{ℕ, ◌+◌, ◌-◌, ◌≤◌}
 use mathlib.Core.List.{List}
-use mathlib.Core.Logic.{⊎_elim}
 use mathlib.Core.Path.{◌≡◌, sym, ap, ◌∙◌}
 use native.Mathlib.Omega.{arith}
 use Rattle.regions.specs.Region.{region_from, region_at, regions_of}
@@ -12,6 +11,7 @@ use Rattle.regions.proofs.Kept.{kept_first, kept_octet, kept_region, kept_within
 use Rattle.regions.proofs.Placed.{Placed, placed_first, placed_octet, placed_region, placed_found, reach_short, reach_none, reach_all}
 use Rattle.regions.proofs.search.before.Invariants.{Next}
 use Rattle.regions.proofs.search.before.Goals as goal
+use Rattle.regions.proofs.search.before.Goals.{Left-octets, else-octets-test, then-octets-test+then-loop-end-test+then-last-place, then-octets-test+then-loop-end-test+else-last-place+then-denies}
 
 pub octets-init : goal.octets-init
 octets-init c =
@@ -91,54 +91,48 @@ record Stopped (s : List ℕ) (n : ℕ) (w : Right) (a size at end base : ℕ) :
   told : at - a ≡ before_of (regions_of s n) w a size
   placed : Placed (region_at s) n a at end base i
 
-abbrev Left : Type 0
-Left =
-    lts.Left-octets (region-in-reads.Asked, region-in-reads.Learnt, denies-reads.Asked, denies-reads.Learnt) reads.Pre reads.Post invariant-loop decreases-loop invariant-octets
-    decreases-octets
-
 -- the span's end is reached, no region is left, or a region denies the octet
-stopped : (c : Left) → let a = c.before.before.before.args in
-    Stopped a.sheet.now a.regions a.right a.address a.size c.before.octets.at c.octets-test.end c.octets-test.base
+stopped : (c : Left-octets) → let a = c.args in Stopped a.sheet.now a.regions a.right a.address a.size c.octets.at c.octets-test.end c.octets-test.base
 stopped c =
-    let b = c.before.before.before in
-    let a = b.args in
+    let a = c.args in
     let f = region_at a.sheet.now in
-    let o = c.before.octets in
-    ⊎_elim
-    (λ w.
-    let most = o.invariant.0 in
-    let k = o.invariant.1 in
-    let e : o.at - a.address ≡ a.size = omega (arith, w.0.left) in
-    rw (w.1, w.2)
-    record {
-      i = k.i;
-      within = kept_within f a.regions a.right a.address o.at o.end k.i k.kept;
-      told = e ∙ kept_ends f a.regions a.right a.address o.at o.end k.i k.kept a.size w.0.left;
-      placed = k.placed;
-    })
-    (λ v.
-    ⊎_elim
-    (λ w.
-    let k = w.1.inv in
-    rw (w.4, w.5)
-    record {
-      i = k.i;
-      within = kept_within f a.regions a.right a.address o.at w.1.end k.i k.kept;
-      told = kept_out f a.regions a.right a.address o.at w.1.end k.i k.kept (omega (arith, k.kept.since, w.2.taken)) (omega (arith, k.stands, w.3.taken)) a.size w.0.taken;
-      placed = k.placed;
-    })
-    (λ w.
-    let k = w.1.inv in
-    rw (w.7, w.8)
-    record {
-      i = k.i;
-      within = kept_within f a.regions a.right a.address o.at w.1.end k.i k.kept;
-      told = kept_denied f a.regions a.right a.address o.at w.1.end k.i k.kept (omega (arith, k.kept.since, w.2.taken)) (omega (arith, k.stands, w.3.left)) w.4.result
-          (w.4.ensures ∙ ap (region_from a.sheet.now) k.stands) b.requires.apart (sym w.5.ensures ∙ w.6.taken) a.size w.0.taken;
-      placed = k.placed;
-    })
-    v)
-    c.octets-test.branch
+    let o = c.octets in
+    elim c.octets-test.branch [
+      | else-octets-test w ↦
+          let most = o.invariant.0 in
+          let k = o.invariant.1 in
+          let e : o.at - a.address ≡ a.size = omega (arith, w.octets-test.false) in
+          rw (w.end-is, w.base-is)
+          record {
+            i = k.i;
+            within = kept_within f a.regions a.right a.address o.at o.end k.i k.kept;
+            told = e ∙ kept_ends f a.regions a.right a.address o.at o.end k.i k.kept a.size w.octets-test.false;
+            placed = k.placed;
+          }
+      | then-octets-test+then-loop-end-test+then-last-place w ↦
+          let e = w.loop-end in
+          let k = e.invariant in
+          rw (w.end-is, w.base-is)
+          record {
+            i = k.i;
+            within = kept_within f a.regions a.right a.address o.at e.end k.i k.kept;
+            told = kept_out f a.regions a.right a.address o.at e.end k.i k.kept (omega (arith, k.kept.since, w.loop-end-test.true)) (omega (arith, k.stands, w.if-last-place.true)) a.size
+                w.octets-test.true;
+            placed = k.placed;
+          }
+      | then-octets-test+then-loop-end-test+else-last-place+then-denies w ↦
+          let e = w.loop-end in
+          let k = e.invariant in
+          let r = w.region_in-region in
+          rw (w.end-is, w.base-is)
+          record {
+            i = k.i;
+            within = kept_within f a.regions a.right a.address o.at e.end k.i k.kept;
+            told = kept_denied f a.regions a.right a.address o.at e.end k.i k.kept (omega (arith, k.kept.since, w.loop-end-test.true)) (omega (arith, k.stands, w.if-last-place.false))
+                r.result (r.ensures ∙ ap (region_from a.sheet.now) k.stands) c.requires.apart (sym w.denies.ensures ∙ w.if-denies.true) a.size w.octets-test.true;
+            placed = k.placed;
+          }
+    ]
 
 pub overflow_sub-result : goal.overflow_sub-result
 overflow_sub-result c = c.octets.invariant.1.kept.since
@@ -150,22 +144,22 @@ pub returns-then-at-stop : goal.returns-then-at-stop
 returns-then-at-stop c =
     let a = c.args in
     let l = c.octets.invariant.1.kept.since in
-    reach_short (regions_of a.sheet.now a.regions) a.right a.address a.size _ (stopped c).told
+    reach_short (regions_of a.sheet.now a.regions) a.right a.address a.size _ (stopped (goal.at.returns-then-at-stop c).Left-octets).told
     (λ z. let w : ⊥ = omega (arith, l, z, c.if-at-stop.true) in w)
 
 pub returns-then-at-first : goal.returns-then-at-first
 returns-then-at-first c =
     let a = c.args in
     let none : 0 ≡ c.octets.at - a.address = omega arith in
-    reach_none (regions_of a.sheet.now a.regions) a.right a.address a.size (none ∙ (stopped c).told) (omega arith)
+    reach_none (regions_of a.sheet.now a.regions) a.right a.address a.size (none ∙ (stopped (goal.at.returns-then-at-first c).Left-octets).told) (omega arith)
 
 -- where an octet was passed, the first one's place
-passed_one : (c : lts.Else4 (region-in-reads.Asked, region-in-reads.Learnt, denies-reads.Asked, denies-reads.Learnt) reads.Pre reads.Post invariant-loop decreases-loop invariant-octets decreases-octets)
+passed_one : (c : Left-octets) → 1 ≤ c.octets.at - c.args.address
     → let a = c.args in
     let end = c.octets-test.end in
     let behind = c.octets-test.base + a.address in
     (end ≤ behind) × (behind - end ≡ place_in (spot_of (regions_of a.sheet.now a.regions) 0 a.address))
-passed_one c =
+passed_one c some =
     let a = c.args in
     let o = c.octets in
     let k = stopped c in
@@ -180,16 +174,16 @@ overflow_cast-result-2 c = omega arith
 
 pub overflow_add-result : goal.overflow_add-result
 overflow_add-result c =
-    let k = stopped c in
+    let k = stopped (goal.at.overflow_add-result c).Left-octets in
     omega (arith, k.within, k.placed.small)
 
 pub overflow_sub-result-3 : goal.overflow_sub-result-3
-overflow_sub-result-3 c = omega (arith, (passed_one c).0)
+overflow_sub-result-3 c = omega (arith, (passed_one (goal.at.overflow_sub-result-3 c).Left-octets (omega arith)).0)
 
 -- regions are apart, so no more octets of memory come before the first than addresses
 pub overflow_cast-result-3 : goal.overflow_cast-result-3
 overflow_cast-result-3 c =
-    let k = stopped c in
+    let k = stopped (goal.at.overflow_cast-result-3 c).Left-octets in
     omega (arith, k.placed.dense)
 
 pub returns : goal.returns
@@ -198,6 +192,7 @@ returns c =
     let o = c.octets in
     let l = o.invariant.1.kept.since in
     let most = o.invariant.0 in
-    reach_all (regions_of a.sheet.now a.regions) a.right a.address a.size _ _ (stopped c).told
+    let some : 1 ≤ o.at - a.address = omega arith in
+    reach_all (regions_of a.sheet.now a.regions) a.right a.address a.size _ _ (stopped (goal.at.returns c).Left-octets).told
     (let all : o.at - a.address ≡ a.size = omega (arith, c.if-at-stop.false) in all)
-    (let some : 1 ≤ o.at - a.address = omega arith in some) (passed_one c).1
+    some (passed_one (goal.at.returns c).Left-octets some).1

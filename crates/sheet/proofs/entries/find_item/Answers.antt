@@ -1,5 +1,4 @@
 -- `sheet::entries::find_item` meets its contract: the search from entry k on is the whole search.
-use Prim.Native.Nat.{◌-◌}
 use mathlib.Core.Path.{sym, ◌∙◌}
 use native.Mathlib.Omega.{arith}
 use Rattle.sheet.specs.Entries.{item_at}

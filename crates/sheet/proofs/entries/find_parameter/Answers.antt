@@ -1,12 +1,12 @@
 -- `sheet::entries::find_parameter` meets its contract: the search from entry j on is the whole search, and at the end of the loop entry j decides.
-use Prim.Native.Nat.{◌+◌, ◌-◌}
-use mathlib.Core.Logic.{⊎_elim}
+use Prim.Native.Nat.{◌+◌}
 use mathlib.Core.Path.{sym, ap, ◌∙◌}
 use native.Mathlib.Omega.{arith}
 use Rattle.sheet.specs.Entries.{parameter_at}
 use Rattle.sheet.specs.declared.entries.Parameter.{Parameter}
 use Rattle.sheet.specs.declared.entries.SoughtParameter.{SoughtParameter}
 use Rattle.sheet.proofs.Sought.{sought_here, sought_past, sought_end, sought_whole}
+use Rattle.sheet.proofs.entries.find_parameter.Goals.{else-loop-j-test, then-loop-j-test+then-passed-number}
 use Rattle.sheet.proofs.entries.find_parameter.Goals as goal
 
 pub returns-then-parameters-eq0 : goal.returns-then-parameters-eq0
@@ -54,10 +54,11 @@ returns c =
     let l = c.loop-j in
     let r = c.parameter_at-parameter in
     let f = parameter_at a.sheet.now a.regions in
-    ⊎_elim
-    (λ w.
-    sym (l.invariant.1
-    ∙ sought_past (λ (x : Parameter). x.number) SoughtParameter.Found SoughtParameter.Missing f l.j a.parameters a.number r.result r.ensures l.invariant.0 c.if-parameter-number.false
-    ∙ sought_end (λ (x : Parameter). x.number) SoughtParameter.Found SoughtParameter.Missing f (l.j + 1) a.parameters a.number (omega (arith, w.left))))
-    (λ w. absurd (c.if-parameter-number.false (ap (λ (x : Parameter). x.number) (r.ensures ∙ sym w.1.ensures) ∙ w.3.taken)))
-    c.loop-j-test.branch
+    elim c.loop-j-test.branch [
+      | else-loop-j-test w ↦
+          sym (l.invariant.1
+          ∙ sought_past (λ (x : Parameter). x.number) SoughtParameter.Found SoughtParameter.Missing f l.j a.parameters a.number r.result r.ensures l.invariant.0 c.if-parameter-number.false
+          ∙ sought_end (λ (x : Parameter). x.number) SoughtParameter.Found SoughtParameter.Missing f (l.j + 1) a.parameters a.number (omega (arith, w.loop-j-test.false)))
+      | then-loop-j-test+then-passed-number w ↦
+          absurd (c.if-parameter-number.false (ap (λ (x : Parameter). x.number) (r.ensures ∙ sym w.parameter_at-passed.ensures) ∙ w.if-passed-number.true))
+    ]

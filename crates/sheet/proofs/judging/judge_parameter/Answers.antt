@@ -1,5 +1,6 @@
 -- `sheet::judging::judge_parameter` meets its contract: each return is what the definition's checks, in the same order, pick.
-use mathlib.Core.Path.{sym, ◌∙◌}
+use mathlib.Core.Bool.{not}
+use mathlib.Core.Path.{sym, ap, ◌∙◌}
 use Rattle.octets.proofs.Pick.{pick_yes, pick_no, pick_lt, pick_ge, pick_le, pick_gt, pick_eq, pick_ne}
 use Rattle.sheet.specs.Judging.{judged_parameter}
 use Rattle.sheet.proofs.judging.judge_parameter.Goals as goal
@@ -40,7 +41,7 @@ returns-then-not-mapped c =
     ∙ pick_ge _ _ c.if-parameter-gt56.false
     ∙ pick_gt _ _ c.if-so-ge64.false
     ∙ pick_ge _ _ c.if-parameter-least.false
-    ∙ pick_yes _ _ c.if-not-mapped.true)
+    ∙ pick_yes _ _ (ap not c.if-not-mapped.true))
 
 pub returns : goal.returns
 unfolding judged_parameter
@@ -50,4 +51,4 @@ returns c =
     ∙ pick_ge _ _ c.if-parameter-gt56.false
     ∙ pick_gt _ _ c.if-so-ge64.false
     ∙ pick_ge _ _ c.if-parameter-least.false
-    ∙ pick_no _ _ c.if-not-mapped.false)
+    ∙ pick_no _ _ (ap not c.if-not-mapped.false))

@@ -78,5 +78,11 @@ pub returns-in_default : goal.returns-in_default
 unfolding misplaced_of
 returns-in_default c =
     let kind = c.args.kind in
-    let r = c.in_default-own.rest in
-    rw (c.if-first.false, ne_eqb kind 1 r.0.0.0.0.0.0.1, ne_eqb kind 2 r.0.0.0.0.0.1, ne_eqb kind 3 r.0.0.0.0.1, ne_eqb kind 4 r.0.0.0.1, ne_eqb kind 5 r.0.0.1, ne_eqb kind 6 r.0.1, ne_eqb kind 7 r.1)
+    let n₁ : kind ≡ 1 → ⊥ = omega arith in
+    let n₂ : kind ≡ 2 → ⊥ = omega arith in
+    let n₃ : kind ≡ 3 → ⊥ = omega arith in
+    let n₄ : kind ≡ 4 → ⊥ = omega arith in
+    let n₅ : kind ≡ 5 → ⊥ = omega arith in
+    let n₆ : kind ≡ 6 → ⊥ = omega arith in
+    let n₇ : kind ≡ 7 → ⊥ = omega arith in
+    rw (c.if-first.false, ne_eqb kind 1 n₁, ne_eqb kind 2 n₂, ne_eqb kind 3 n₃, ne_eqb kind 4 n₄, ne_eqb kind 5 n₅, ne_eqb kind 6 n₆, ne_eqb kind 7 n₇)

@@ -2,6 +2,7 @@
 use Prim.Native.Nat.{ℕ}
 use mathlib.Core.Bool.{false}
 use mathlib.Core.Path.{◌≡◌, refl, sym, ap, ap₂, ◌∙◌}
+use native.Mathlib.Omega.{arith}
 use borrow.Author.Tests.{ne_eqb}
 use Rattle.octets.proofs.Pick.{pick_yes, pick_no, pick_eq, pick_ne, pick_key, pick_ge}
 use Rattle.sheet.specs.Kinds.{is_link, size_of}
@@ -82,14 +83,16 @@ returns-in-6 c =
 pub returns-in_default : goal.returns-in_default
 unfolding body_of size_of
 returns-in_default c =
-    let n = c.in_default-own.rest in
-    let no₄ = n.0.0.1 in
-    let no₃ = n.0.0.0.1 in
-    let no₂ = n.0.0.0.0.1 in
-    let link = no_link _ n.0.0.0.0.0.1 n.0.1 in
-    let no₀ = n.0.0.0.0.0.0.1 in
+    let no₀ : c.args.kind ≡ 0 → ⊥ = omega arith in
+    let no₁ : c.args.kind ≡ 1 → ⊥ = omega arith in
+    let no₂ : c.args.kind ≡ 2 → ⊥ = omega arith in
+    let no₃ : c.args.kind ≡ 3 → ⊥ = omega arith in
+    let no₄ : c.args.kind ≡ 4 → ⊥ = omega arith in
+    let no₅ : c.args.kind ≡ 5 → ⊥ = omega arith in
+    let no₆ : c.args.kind ≡ 6 → ⊥ = omega arith in
+    let link = no_link _ no₁ no₅ in
     c.read_release.ensures
     ∙ sym
     (ap₂ (λ (m : ℕ) (r : Reading). whole m c.args.rest.now r)
     (pick_ne _ _ no₀ ∙ pick_no _ _ link ∙ pick_ne _ _ no₂ ∙ pick_ne _ _ no₃ ∙ pick_ne _ _ no₄)
-    (pick_ne _ _ no₀ ∙ pick_no _ _ link ∙ pick_ne _ _ no₂ ∙ pick_ne _ _ no₃ ∙ pick_ne _ _ no₄ ∙ pick_ne _ _ n.1))
+    (pick_ne _ _ no₀ ∙ pick_no _ _ link ∙ pick_ne _ _ no₂ ∙ pick_ne _ _ no₃ ∙ pick_ne _ _ no₄ ∙ pick_ne _ _ no₆))

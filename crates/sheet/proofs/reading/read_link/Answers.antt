@@ -14,11 +14,11 @@ unfolding link_of
 returns-then-not-length_fits c =
     sym
     (pick_ge _ _ c.if-rest-lt4.false
-    ∙ pick_yes _ _ (ap not (sym (c.length_fits.ensures ∙ ap₂ length_fits c.octet.ensures c.octet-2.ensures)) ∙ c.if-not-length_fits.true))
+    ∙ pick_yes _ _ (ap not (sym (c.length_fits.ensures ∙ ap₂ length_fits c.octet.ensures c.octet-2.ensures)) ∙ ap not c.if-not-length_fits.true))
 
 pub returns : goal.returns
 unfolding link_of
 returns c =
     sym
     (pick_ge _ _ c.if-rest-lt4.false
-    ∙ pick_no _ _ (ap not (sym (c.length_fits.ensures ∙ ap₂ length_fits c.octet.ensures c.octet-2.ensures)) ∙ c.if-not-length_fits.false))
+    ∙ pick_no _ _ (ap not (sym (c.length_fits.ensures ∙ ap₂ length_fits c.octet.ensures c.octet-2.ensures)) ∙ ap not c.if-not-length_fits.false))

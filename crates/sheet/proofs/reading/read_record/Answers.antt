@@ -14,14 +14,14 @@ unfolding record_of
 returns-then-not-is_kind c =
     sym
     (pick_ne _ _ c.if-rest-eq0.false
-    ∙ pick_yes _ _ (ap not (sym c.is_kind.ensures) ∙ c.if-not-is_kind.true))
+    ∙ pick_yes _ _ (ap not (sym c.is_kind.ensures) ∙ ap not c.if-not-is_kind.true))
 
 pub returns-then-misplaced : goal.returns-then-misplaced
 unfolding record_of
 returns-then-misplaced c =
     sym
     (pick_ne _ _ c.if-rest-eq0.false
-    ∙ pick_no _ _ (ap not (sym c.is_kind.ensures) ∙ c.if-not-is_kind.false)
+    ∙ pick_no _ _ (ap not (sym c.is_kind.ensures) ∙ ap not c.if-not-is_kind.false)
     ∙ pick_yes _ _ (sym c.misplaced.ensures ∙ c.if-misplaced.true))
 
 pub returns : goal.returns
@@ -30,5 +30,5 @@ returns c =
     c.read_body.ensures
     ∙ sym
     (pick_ne _ _ c.if-rest-eq0.false
-    ∙ pick_no _ _ (ap not (sym c.is_kind.ensures) ∙ c.if-not-is_kind.false)
+    ∙ pick_no _ _ (ap not (sym c.is_kind.ensures) ∙ ap not c.if-not-is_kind.false)
     ∙ pick_no _ _ (sym c.misplaced.ensures ∙ c.if-misplaced.false))

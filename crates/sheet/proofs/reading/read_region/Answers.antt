@@ -10,4 +10,4 @@ returns-then-rest-lt10 c = sym (pick_lt _ _ c.if-rest-lt10.true)
 pub returns : goal.returns
 unfolding region_of
 returns c =
-    c.judge_region.ensures ∙ rw (c.region_in.ensures, c.end_Before.ensures) (sym (pick_ge _ _ c.if-rest-lt10.false))
+    c.judge_region.ensures ∙ rw (c.region_in.ensures, c.end_before.ensures) (sym (pick_ge _ _ c.if-rest-lt10.false))

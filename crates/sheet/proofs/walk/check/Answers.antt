@@ -16,7 +16,7 @@ returns-then-sheet-gt2048 c = sym (pick_lt _ _ c.if-sheet-gt2048.true)
 
 pub walk-requires : goal.walk-requires
 walk-requires c =
-    let s = c.args.t1.now in
+    let s = c.args.sheet.now in
     let e : 0 ≡ length s - length s = omega arith in (
       omega arith,
       record {
@@ -31,5 +31,5 @@ pub returns : goal.returns
 unfolding verdict_of
 returns c =
     c.told.ensures
-    ∙ c.walk.ensures (suc (length c.args.t1.now)) (omega arith)
+    ∙ c.walk.ensures (suc (length c.args.sheet.now)) (omega arith)
     ∙ sym (pick_ge _ _ c.if-sheet-gt2048.false)

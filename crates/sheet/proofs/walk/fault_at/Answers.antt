@@ -5,7 +5,7 @@ use Rattle.sheet.proofs.walk.fault_at.Goals as goal
 
 pub returns-in-Bad : goal.returns-in-Bad
 unfolding failed_at
-returns-in-Bad c = c.failed.ensures ∙ rw c.read-1.given.1
+returns-in-Bad c = c.failed.ensures ∙ rw c.in-Bad.is
 
 pub returns-in-Record : goal.returns-in-Record
 unfolding failed_at

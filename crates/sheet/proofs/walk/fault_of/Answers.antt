@@ -1,5 +1,6 @@
 -- `sheet::walk::fault_of` meets its contract, number by number.
-use mathlib.Core.Path.{refl, sym, ◌∙◌}
+use mathlib.Core.Path.{◌≡◌, refl, sym, ◌∙◌}
+use native.Mathlib.Omega.{arith}
 use Rattle.octets.proofs.Pick.{pick_eq, pick_ne, pick_key}
 use Rattle.sheet.specs.Handed.{fault_of}
 use Rattle.sheet.proofs.walk.fault_of.Goals as goal
@@ -56,10 +57,16 @@ returns-in-16 c =
 pub returns-in_default : goal.returns-in_default
 unfolding fault_of
 returns-in_default c =
+    let n₁₁ : c.args.number ≡ 11 → ⊥ = omega arith in
+    let n₁₂ : c.args.number ≡ 12 → ⊥ = omega arith in
+    let n₁₃ : c.args.number ≡ 13 → ⊥ = omega arith in
+    let n₁₄ : c.args.number ≡ 14 → ⊥ = omega arith in
+    let n₁₅ : c.args.number ≡ 15 → ⊥ = omega arith in
+    let n₁₆ : c.args.number ≡ 16 → ⊥ = omega arith in
     sym
-    (pick_ne _ _ c.in_default-own.rest.0.0.0.0.0.1
-    ∙ pick_ne _ _ c.in_default-own.rest.0.0.0.0.1
-    ∙ pick_ne _ _ c.in_default-own.rest.0.0.0.1
-    ∙ pick_ne _ _ c.in_default-own.rest.0.0.1
-    ∙ pick_ne _ _ c.in_default-own.rest.0.1
-    ∙ pick_ne _ _ c.in_default-own.rest.1)
+    (pick_ne _ _ n₁₁
+    ∙ pick_ne _ _ n₁₂
+    ∙ pick_ne _ _ n₁₃
+    ∙ pick_ne _ _ n₁₄
+    ∙ pick_ne _ _ n₁₅
+    ∙ pick_ne _ _ n₁₆)

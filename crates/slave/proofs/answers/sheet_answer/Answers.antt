@@ -10,4 +10,4 @@ returns-in-Valid c = rw c.in-Valid.is
 
 pub returns-in-Faulty : goal.returns-in-Faulty
 unfolding sheet_answer
-returns-in-Faulty c = rw c.verdict-1.given.1 (ap (λ (n : ℕ). told n c.verdict-1.given.0.1.0) c.fault_number.ensures)
+returns-in-Faulty c = rw c.in-Faulty.is (ap (λ (n : ℕ). told n c.in-Faulty.place) c.fault_number.ensures)

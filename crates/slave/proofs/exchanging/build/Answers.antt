@@ -31,7 +31,7 @@ pub fill_body-requires : goal.fill_body-requires
 fill_body-requires c =
     let a = c.args in
     lent_fits a.sheet.now a.memory.now a.command.now a.reply.now a.layout a.st c.requires
-    c.command_of-c.result c.stray-stray.result c.outcome-outcome.result c.head.new.1.0 c.outcome-outcome.ensures c.head.auto.1.0
+    c.command_of-c.result c.stray-stray.result c.outcome-outcome.result c.head.new.reply c.outcome-outcome.ensures c.head.auto.reply
 
 pub returns : goal.returns
 returns c =
@@ -40,6 +40,6 @@ returns c =
     let o = c.outcome-outcome.result in
     let k = c.command_of-c in
     let e = c.outcome-outcome.ensures ∙ ap₂ (outcome_of a.sheet.now a.layout a.st) k.ensures c.stray-stray.ensures in
-    let reply = built_reply a.layout.form a.sheet.now a.memory.now a.command.now a.reply.now o k.result c.head.new.1.0 c.fill_body.new.1.1.1.1.1.0
+    let reply = built_reply a.layout.form a.sheet.now a.memory.now a.command.now a.reply.now o k.result c.head.new.reply c.fill_body.new.reply
     k.ensures (p.lent ∙ sym p.asked) c.head.ensures c.fill_body.ensures in
     (e, c.place_of-place.ensures, reply ∙ ap (reply_of a.layout.form a.sheet.now a.memory.now a.command.now) e)

@@ -19,7 +19,7 @@ returns-in_default c =
     let m = a.memory.now in
     let r = a.reply.now in
     ap (λ (x : Answer). left x s m r) (c.sheet_answer.ensures ∙ ap sheet_answer c.check-verdict.ensures)
-    ∙ sym (on_faulty _ _ _ _ _ (sym c.check-verdict.ensures ∙ c.enum_told-1.given.1))
+    ∙ sym (on_faulty _ _ _ _ _ (sym c.check-verdict.ensures ∙ c.in_default.is))
 
 pub returns-in_default-held : goal.returns-in_default-held
 unfolding exchange_of
@@ -29,7 +29,7 @@ returns-in_default-held c =
     let m = a.memory.now in
     let r = a.reply.now in
     ap (λ (x : Answer). left x s m r) c.plain.ensures
-    ∙ sym (on_valid _ _ _ _ (sym c.check-verdict.ensures ∙ c.verdict-1.given.1) ∙ on_invalid _ _ _ (sym c.read-held.ensures ∙ c.enum_told-in_default-held-1.given.1))
+    ∙ sym (on_valid _ _ _ _ (sym c.check-verdict.ensures ∙ c.in-Valid.is) ∙ on_invalid _ _ _ (sym c.read-held.ensures ∙ c.in_default-held.is))
 
 pub returns-then-refused-ne0 : goal.returns-then-refused-ne0
 unfolding exchange_of
@@ -40,16 +40,16 @@ returns-then-refused-ne0 c =
     let r = a.reply.now in
     ap (λ (x : Answer). left x s m r) (c.plain-then-refused-ne0.ensures ∙ ap (λ (n : ℕ). told n 0) c.refusal-refused.ensures)
     ∙ sym
-    (on_valid _ _ _ _ (sym c.check-verdict.ensures ∙ c.verdict-1.given.1)
-    ∙ on_state_lem _ _ _ _ (sym c.read-held.ensures ∙ c.held-1.given.1)
+    (on_valid _ _ _ _ (sym c.check-verdict.ensures ∙ c.in-Valid.is)
+    ∙ on_state_lem _ _ _ _ (sym c.read-held.ensures ∙ c.in-State.is)
     ∙ pick_differ _ _ (λ z. c.if-refused-ne0.true (c.refusal-refused.ensures ∙ z)))
 
 pub perform-told-requires : goal.perform-told-requires
 perform-told-requires c =
     let q = no_refusal _ _ _ _ _ (sym c.refusal-refused.ensures ∙ c.if-refused-ne0.false) in (
       record {
-        valid = sym c.check-verdict.ensures ∙ c.verdict-1.given.1;
-        held = sym c.read-held.ensures ∙ c.held-1.given.1;
+        valid = sym c.check-verdict.ensures ∙ c.in-Valid.is;
+        held = sym c.read-held.ensures ∙ c.in-State.is;
         whole = q.0;
         asked = q.1;
         lent = q.2;
@@ -65,6 +65,6 @@ returns c =
     let step = ap (λ (x : Came). x.left.step) e ∙ wanted_nothing a.state.now a.memory.now _ in
     (λ i. left (told 0 (e i).place) (step i).state (step i).memory (e i).left.reply)
     ∙ sym
-    (on_valid _ _ _ _ (sym c.check-verdict.ensures ∙ c.verdict-1.given.1)
-    ∙ on_state_lem _ _ _ _ (sym c.read-held.ensures ∙ c.held-1.given.1)
+    (on_valid _ _ _ _ (sym c.check-verdict.ensures ∙ c.in-Valid.is)
+    ∙ on_state_lem _ _ _ _ (sym c.read-held.ensures ∙ c.in-State.is)
     ∙ pick_same _ _ (sym c.refusal-refused.ensures ∙ c.if-refused-ne0.false))

@@ -33,7 +33,7 @@ differs-at-requires c =
     let a = c.args in
     let p = c.requires in
     let m = length_most a.sheet.now a.layout (valid_sheet a.sheet.now a.layout p.0.valid) in
-    let e = c.build-built.auto.1.1.1.1.1.0 ∙ p.0.lent in
+    let e = c.build-built.auto.reply ∙ p.0.lent in
     (omega (arith, p.1), omega arith)
 
 pub returns-then-at-wanted : goal.returns-then-at-wanted
@@ -43,9 +43,9 @@ returns-then-at-wanted c =
     let b = c.build-built.ensures in
     let d = c.differs-at.result in
     let e = c.differs-at.ensures ∙ ap (λ (x : List ℕ). differs_at x a.wanted.now) b.2 in
+    let place = place_told d c.build-built.result.place (omega arith) ∙ b.1 ∙ ap (λ (x : Outcome). place_of x.field) b.0 in
     let step = ap (λ (n : ℕ). stepped n a.state.now a.memory.now) (at_told d c.build-built.result.place (omega arith) ∙ e)
     ∙ sym (pick_ne _ _ (λ z. let k : d ≡ length a.wanted.now = e ∙ z in let w : ⊥ = omega arith in w)) in
-    let place = place_told d c.build-built.result.place (omega arith) ∙ b.1 ∙ ap (λ (x : Outcome). place_of x.field) b.0 in
     λ i. came (place i) (performed (step i) (b.2 i))
 
 pub store-requires : goal.store-requires
@@ -65,12 +65,12 @@ returns c =
     let b = c.build-built.ensures in
     let d = c.differs-at.result in
     let found = c.differs-at.ensures in
-    let most = differs_most c.build-built.new.1.1.1.1.1.0 a.wanted.now in
+    let most = differs_most c.build-built.new.reply a.wanted.now in
     let all : d ≡ length a.wanted.now = omega (arith, found, c.if-at-wanted.false) in
     let e = found ∙ ap (λ (x : List ℕ). differs_at x a.wanted.now) b.2 in
     let at = at_told d c.build-built.result.place (omega arith) in
     let state = c.write.ensures ∙ written a.state.now o.next (read_valid _ _ _ _ c.requires.0.held).0 ∙ ap (λ (x : Outcome). octets_of x.next) b.0 in
     let memory = c.store.ensures ∙ ap (λ (x : Outcome). memory_after a.layout.form x.effect a.command.now a.memory.now) b.0 in
-    let step = (λ i. stepped ((at ∙ e) i) (state i) (memory i)) ∙ sym (pick_eq _ _ (sym e ∙ all)) in
     let place = place_told d c.build-built.result.place (omega arith) ∙ b.1 ∙ ap (λ (x : Outcome). place_of x.field) b.0 in
+    let step = (λ i. stepped ((at ∙ e) i) (state i) (memory i)) ∙ sym (pick_eq _ _ (sym e ∙ all)) in
     λ i. came (place i) (performed (step i) (b.2 i))

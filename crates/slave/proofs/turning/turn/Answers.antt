@@ -14,23 +14,23 @@ pub returns-in_default : goal.returns-in_default
 unfolding turn_of
 returns-in_default c =
     ap (λ (a : Answer). after a c.args.state.now) (c.sheet_answer.ensures ∙ ap sheet_answer c.check-verdict.ensures)
-    ∙ sym (on_faulty _ _ _ _ _ (sym c.check-verdict.ensures ∙ c.enum_told-1.given.1))
+    ∙ sym (on_faulty _ _ _ _ _ (sym c.check-verdict.ensures ∙ c.in_default.is))
 
 pub returns-in_default-held : goal.returns-in_default-held
 unfolding turn_of
 returns-in_default-held c =
     ap (λ (a : Answer). after a c.args.state.now) c.plain.ensures
     ∙ sym
-    (on_valid _ _ _ _ (sym c.check-verdict.ensures ∙ c.verdict-1.given.1)
-    ∙ on_invalid _ _ _ (sym c.read_old-held.ensures ∙ c.enum_told-in_default-held-1.given.1))
+    (on_valid _ _ _ _ (sym c.check-verdict.ensures ∙ c.in-Valid.is)
+    ∙ on_invalid _ _ _ (sym c.read_old-held.ensures ∙ c.in_default-held.is))
 
 pub returns-then-state-ne-STATE_LENGTH : goal.returns-then-state-ne-STATE_LENGTH
 unfolding turn_of
 returns-then-state-ne-STATE_LENGTH c =
     ap (λ (a : Answer). after a c.args.state.now) c.plain-then-state-ne-STATE_LENGTH.ensures
     ∙ sym
-    (on_valid _ _ _ _ (sym c.check-verdict.ensures ∙ c.verdict-1.given.1)
-    ∙ on_state_lem _ _ _ _ (sym c.read_old-held.ensures ∙ c.held-1.given.1)
+    (on_valid _ _ _ _ (sym c.check-verdict.ensures ∙ c.in-Valid.is)
+    ∙ on_state_lem _ _ _ _ (sym c.read_old-held.ensures ∙ c.in-State.is)
     ∙ pick_yes _ _ (ap not (ne_eqb _ _ c.if-state-ne-STATE_LENGTH.true)))
 
 pub returns : goal.returns
@@ -39,6 +39,6 @@ returns c =
     let e = c.if-state-ne-STATE_LENGTH.false in
     ap₂ after c.plain-2.ensures (c.write.ensures ∙ written c.args.state.now _ e)
     ∙ sym
-    (on_valid _ _ _ _ (sym c.check-verdict.ensures ∙ c.verdict-1.given.1)
-    ∙ on_state_lem _ _ _ _ (sym c.read_old-held.ensures ∙ c.held-1.given.1)
+    (on_valid _ _ _ _ (sym c.check-verdict.ensures ∙ c.in-Valid.is)
+    ∙ on_state_lem _ _ _ _ (sym c.read_old-held.ensures ∙ c.in-State.is)
     ∙ pick_no _ _ (ap not (eq-eqb _ _ e)))
