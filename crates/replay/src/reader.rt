@@ -1,5 +1,4 @@
-// "A reader that holds the trace and its place hands out one record at a time": form.rt does the work, as each function here is proved
-// by a walk by hand.
+// "A reader that holds the trace and its place hands out one record at a time": form.rt does the work, on a slice and a place.
 ghost use Rattle.std.specs.Prelude.{◌≡◌, ◌+◌, ◌≤◌, length};
 ghost use Rattle.replay.specs.Trace.{record_size, record_at, command_at, reply_at};
 
@@ -60,7 +59,7 @@ pub fn place<'a>(r: Reader<'a>) -> usize
     r.at
 }
 
-// The same for plain parameters: what every caller uses, and none needs a walk.
+// The same for plain parameters: what every caller uses.
 pub fn record_at(trace: &[u8], at: usize, l: u8) -> Record
     ensures { result ≡ record_at l trace.now at }
 {

@@ -6,5 +6,4 @@ use Rattle.type24.proofs.t24_difference.Goals as goal
 
 pub returns : goal.returns
 returns c =
-    let call = c in
-    ap (λ (n : ℕ). packed_list n call.difference.new.1.1.0) c.pack.ensures ∙ ap by_difference call.difference.ensures
+    ap (λ (n : ℕ). packed_list n c.difference.new.list) c.pack.ensures ∙ ap by_difference c.difference.ensures

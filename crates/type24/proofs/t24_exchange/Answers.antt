@@ -7,4 +7,4 @@ use Rattle.type24.proofs.t24_exchange.Goals as goal
 pub returns : goal.returns
 returns c =
     let last = c.exchange.new in
-    ap (λ (n : ℕ). packed_left n last.1.0 last.1.1.0 last.1.1.1.1.0) c.pack.ensures ∙ ap left_by_call c.exchange.ensures
+    ap (λ (n : ℕ). packed_left n last.state last.memory last.reply) c.pack.ensures ∙ ap left_by_call c.exchange.ensures

@@ -5,7 +5,7 @@ use Rattle.type24.proofs.t24_lengths.Goals as goal
 
 pub returns-in-Valid : goal.returns-in-Valid
 unfolding lengths_of
-returns-in-Valid c = ap lengths_of (sym c.layout-1.given.1 ∙ c.check.ensures)
+returns-in-Valid c = ap lengths_of (sym c.in-Valid.is ∙ c.check.ensures)
 
 pub returns-in-Faulty : goal.returns-in-Faulty
 unfolding lengths_of

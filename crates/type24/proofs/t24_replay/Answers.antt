@@ -7,4 +7,4 @@ use Rattle.type24.proofs.t24_replay.Goals as goal
 pub returns : goal.returns
 returns c =
     let last = c.replay.new in
-    ap (λ (n : ℕ). packed_replay n last.1.0 last.1.1.0) c.pack.ensures ∙ ap by_replay c.replay.ensures
+    ap (λ (n : ℕ). packed_replay n last.state last.memory) c.pack.ensures ∙ ap by_replay c.replay.ensures

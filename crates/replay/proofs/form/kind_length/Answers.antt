@@ -1,5 +1,6 @@
 -- `replay::form::kind_length` meets its contract, kind by kind.
 use mathlib.Core.Path.{refl, sym, ◌∙◌}
+use Rattle.std.proofs.Common.{rules}
 use Rattle.octets.proofs.Pick.{pick_eq, pick_ne, pick_key}
 use Rattle.replay.specs.Trace.{kind_length}
 use Rattle.replay.proofs.form.kind_length.Goals as goal
@@ -44,10 +45,4 @@ returns-in-37 c =
 
 pub returns-in_default : goal.returns-in_default
 unfolding kind_length
-returns-in_default c =
-    sym
-    (pick_ne _ _ c.in_default-own.rest.0.0.0.0.1
-    ∙ pick_ne _ _ c.in_default-own.rest.0.0.0.1
-    ∙ pick_ne _ _ c.in_default-own.rest.0.0.1
-    ∙ pick_ne _ _ c.in_default-own.rest.0.1
-    ∙ pick_ne _ _ c.in_default-own.rest.1)
+returns-in_default c = search (rules, pick_ne)

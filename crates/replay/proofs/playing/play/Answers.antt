@@ -63,25 +63,22 @@ pub overflow_add-result : goal.overflow_add-result
 overflow_add-result c = omega (arith, c.loop-at.invariant.0, c.requires.3)
 
 pub shape_of-state-then-d-layout : goal.shape_of-state-then-d-layout
-shape_of-state-then-d-layout c = c.one-d.auto.1.1.0 ∙ c.loop-at.invariant.1
+shape_of-state-then-d-layout c = c.one-d.auto.state ∙ c.loop-at.invariant.1
 
 pub shape_of-memory-then-d-layout : goal.shape_of-memory-then-d-layout
-shape_of-memory-then-d-layout c = c.one-d.auto.1.1.1.0 ∙ c.loop-at.invariant.2
+shape_of-memory-then-d-layout c = c.one-d.auto.memory ∙ c.loop-at.invariant.2
 
 pub shape_of-room-then-d-layout : goal.shape_of-room-then-d-layout
-shape_of-room-then-d-layout c = c.one-d.auto.1.1.1.1.1.1.0 ∙ c.loop-at.invariant.3
+shape_of-room-then-d-layout c = c.one-d.auto.room ∙ c.loop-at.invariant.3
 
 pub returns-then-d-layout : goal.returns-then-d-layout
 returns-then-d-layout c =
-    let call = c in
-    let turn = call in
-    let start = turn in
-    let a = start.args in
-    let l = turn.loop-at in
-    let o = call.one-d in
-    let q = one_more (length a.trace.now) l.at l.invariant.4.0 (record_size a.layout.l) l.invariant.4.1 call.loop-at-test.true in
-    let x = stepped o.result o.new.1.1.0 o.new.1.1.1.0 in
-    sym (l.invariant.4.2 ∙ play_differs a.sheet.now a.trace.now a.layout.l l.k l.at l.state l.memory x q.1 call.command_at-command.ensures call.reply_at-theirs.ensures (ap (λ (y : Performed). y.step) o.ensures) c.if-d-layout.true)
+    let a = c.args in
+    let l = c.loop-at in
+    let o = c.one-d in
+    let q = one_more (length a.trace.now) l.at l.invariant.4.0 (record_size a.layout.l) l.invariant.4.1 c.loop-at-test.true in
+    let x = stepped o.result o.new.state o.new.memory in
+    sym (l.invariant.4.2 ∙ play_differs a.sheet.now a.trace.now a.layout.l l.k l.at l.state l.memory x q.1 c.command_at-command.ensures c.reply_at-theirs.ensures (ap (λ (y : Performed). y.step) o.ensures) c.if-d-layout.true)
 
 pub overflow_add-k : goal.overflow_add-k
 overflow_add-k c = omega (arith, c.loop-at.invariant.0, c.requires.3)
@@ -94,28 +91,25 @@ loop-at-smaller c = omega (arith, c.loop-at-test.true)
 
 pub loop-at-preserved : goal.loop-at-preserved
 loop-at-preserved c =
-    let call = c in
-    let turn = call in
-    let start = turn in
-    let a = start.args in
-    let l = turn.loop-at in
-    let o = call.one-d in
-    let q = one_more (length a.trace.now) l.at l.invariant.4.0 (record_size a.layout.l) l.invariant.4.1 call.loop-at-test.true in
-    let x = stepped o.result o.new.1.1.0 o.new.1.1.1.0 in
-    let w = one_whole (length a.trace.now) l.at l.invariant.4.0 (record_size a.layout.l) l.invariant.4.1 call.loop-at-test.true in
-    let runs = step_runs a.sheet.now l.state l.memory _ _ a.layout start.requires.0 l.invariant.5.0 l.invariant.5.1 (l.invariant.2 ∙ start.requires.1)
-    (ap (λ (s : List ℕ). length s) call.command_at-command.ensures ∙ command_whole a.layout.l a.trace.now l.at w)
-    (ap (λ (s : List ℕ). length s) call.reply_at-theirs.ensures ∙ reply_whole a.layout.l a.trace.now l.at w) in
-    let least = length_least a.sheet.now a.layout (valid_sheet a.sheet.now a.layout start.requires.0) in (
+    let a = c.args in
+    let l = c.loop-at in
+    let o = c.one-d in
+    let q = one_more (length a.trace.now) l.at l.invariant.4.0 (record_size a.layout.l) l.invariant.4.1 c.loop-at-test.true in
+    let x = stepped o.result o.new.state o.new.memory in
+    let w = one_whole (length a.trace.now) l.at l.invariant.4.0 (record_size a.layout.l) l.invariant.4.1 c.loop-at-test.true in
+    let runs = step_runs a.sheet.now l.state l.memory _ _ a.layout c.requires.0 l.invariant.5.0 l.invariant.5.1 (l.invariant.2 ∙ c.requires.1)
+    (ap (λ (s : List ℕ). length s) c.command_at-command.ensures ∙ command_whole a.layout.l a.trace.now l.at w)
+    (ap (λ (s : List ℕ). length s) c.reply_at-theirs.ensures ∙ reply_whole a.layout.l a.trace.now l.at w) in
+    let least = length_least a.sheet.now a.layout (valid_sheet a.sheet.now a.layout c.requires.0) in (
       omega (arith, l.invariant.0),
-      o.auto.1.1.0 ∙ l.invariant.1,
-      o.auto.1.1.1.0 ∙ l.invariant.2,
-      o.auto.1.1.1.1.1.1.0 ∙ l.invariant.3,
+      o.auto.state ∙ l.invariant.1,
+      o.auto.memory ∙ l.invariant.2,
+      o.auto.room ∙ l.invariant.3,
       (
         q.0,
         omega (arith, q.2),
         l.invariant.4.2
-            ∙ play_agrees a.sheet.now a.trace.now a.layout.l l.k l.at l.state l.memory x q.1 call.command_at-command.ensures call.reply_at-theirs.ensures (ap (λ (y : Performed). y.step) o.ensures) c.if-d-layout.false c.behind-at.ensures,
+            ∙ play_agrees a.sheet.now a.trace.now a.layout.l l.k l.at l.state l.memory x q.1 c.command_at-command.ensures c.reply_at-theirs.ensures (ap (λ (y : Performed). y.step) o.ensures) c.if-d-layout.false c.behind-at.ensures,
       ),
       subst (λ (s : List ℕ). (st : LinkState) × Running s a.layout st) (sym (ap (λ (y : Performed). y.step.state) o.ensures)) runs,
     )

@@ -14,28 +14,28 @@ returns-in_default c =
     let a = c.args in
     ap (λ (x : Answer). replayed x a.state.now a.memory.now)
     (c.sheet_answer.ensures ∙ ap sheet_answer c.check-verdict.ensures)
-    ∙ sym (on_faulty _ _ _ _ _ (sym c.check-verdict.ensures ∙ c.enum_told-1.given.1))
+    ∙ sym (on_faulty _ _ _ _ _ (sym c.check-verdict.ensures ∙ c.in_default.is))
 
 pub returns-in_default-held : goal.returns-in_default-held
 unfolding replay_of
 returns-in_default-held c =
     let a = c.args in
     ap (λ (x : Answer). replayed x a.state.now a.memory.now) c.plain.ensures
-    ∙ sym (on_valid _ _ _ _ (sym c.check-verdict.ensures ∙ c.verdict-1.given.1) ∙ on_invalid _ _ _ (sym c.read-held.ensures ∙ c.enum_told-in_default-held-1.given.1))
+    ∙ sym (on_valid _ _ _ _ (sym c.check-verdict.ensures ∙ c.in-Valid.is) ∙ on_invalid _ _ _ (sym c.read-held.ensures ∙ c.in_default-held.is))
 
 pub returns-then-memory-layout : goal.returns-then-memory-layout
 unfolding replay_of
 returns-then-memory-layout c =
     let a = c.args in
     ap (λ (x : Answer). replayed x a.state.now a.memory.now) c.plain-then-memory-layout.ensures
-    ∙ sym (on_valid _ _ _ _ (sym c.check-verdict.ensures ∙ c.verdict-1.given.1) ∙ on_state_lem _ _ _ _ (sym c.read-held.ensures ∙ c.held-1.given.1) ∙ pick_differ _ _ c.if-memory-layout.true)
+    ∙ sym (on_valid _ _ _ _ (sym c.check-verdict.ensures ∙ c.in-Valid.is) ∙ on_state_lem _ _ _ _ (sym c.read-held.ensures ∙ c.in-State.is) ∙ pick_differ _ _ c.if-memory-layout.true)
 
 pub returns-then-st-eq-DISABLED : goal.returns-then-st-eq-DISABLED
 unfolding replay_of
 returns-then-st-eq-DISABLED c =
     let a = c.args in
     ap (λ (x : Answer). replayed x a.state.now a.memory.now) c.plain-then-st-eq-DISABLED.ensures
-    ∙ sym (on_valid _ _ _ _ (sym c.check-verdict.ensures ∙ c.verdict-1.given.1) ∙ on_state_lem _ _ _ _ (sym c.read-held.ensures ∙ c.held-1.given.1) ∙ pick_same _ _ c.if-memory-layout.false ∙ pick_eq _ _ c.if-st-eq-DISABLED.true)
+    ∙ sym (on_valid _ _ _ _ (sym c.check-verdict.ensures ∙ c.in-Valid.is) ∙ on_state_lem _ _ _ _ (sym c.read-held.ensures ∙ c.in-State.is) ∙ pick_same _ _ c.if-memory-layout.false ∙ pick_eq _ _ c.if-st-eq-DISABLED.true)
 
 pub returns-then-form-ne0 : goal.returns-then-form-ne0
 unfolding replay_of
@@ -43,7 +43,7 @@ returns-then-form-ne0 c =
     let a = c.args in
     let f = c.checked-form in
     ap (λ (x : Answer). replayed x a.state.now a.memory.now) f.ensures
-    ∙ sym (on_valid _ _ _ _ (sym c.check-verdict.ensures ∙ c.verdict-1.given.1) ∙ on_state_lem _ _ _ _ (sym c.read-held.ensures ∙ c.held-1.given.1) ∙ pick_same _ _ c.if-memory-layout.false ∙ pick_ne _ _ c.if-st-eq-DISABLED.false
+    ∙ sym (on_valid _ _ _ _ (sym c.check-verdict.ensures ∙ c.in-Valid.is) ∙ on_state_lem _ _ _ _ (sym c.read-held.ensures ∙ c.in-State.is) ∙ pick_same _ _ c.if-memory-layout.false ∙ pick_ne _ _ c.if-st-eq-DISABLED.false
     ∙ pick_differ _ _ (λ z. c.if-form-ne0.true (ap (λ (x : Answer). x.number) f.ensures ∙ z)))
 
 pub play_all-requires : goal.play_all-requires
@@ -51,14 +51,14 @@ play_all-requires c =
     let a = c.args in
     let f = c.checked-form in
     let w = checked_whole _ a.trace.now (sym (ap (λ (x : Answer). x.number) f.ensures) ∙ c.if-form-ne0.false) in (
-      sym c.check-verdict.ensures ∙ c.verdict-1.given.1,
+      sym c.check-verdict.ensures ∙ c.in-Valid.is,
       c.if-memory-layout.false,
       w.0,
       w.1,
       (
         _,
         record {
-          held = sym c.read-held.ensures ∙ c.held-1.given.1;
+          held = sym c.read-held.ensures ∙ c.in-State.is;
           on = c.if-st-eq-DISABLED.false;
         },
       ),
@@ -69,5 +69,5 @@ unfolding replay_of
 returns c =
     let f = c.checked-form in
     c.play_all.ensures
-    ∙ sym (on_valid _ _ _ _ (sym c.check-verdict.ensures ∙ c.verdict-1.given.1) ∙ on_state_lem _ _ _ _ (sym c.read-held.ensures ∙ c.held-1.given.1) ∙ pick_same _ _ c.if-memory-layout.false ∙ pick_ne _ _ c.if-st-eq-DISABLED.false
+    ∙ sym (on_valid _ _ _ _ (sym c.check-verdict.ensures ∙ c.in-Valid.is) ∙ on_state_lem _ _ _ _ (sym c.read-held.ensures ∙ c.in-State.is) ∙ pick_same _ _ c.if-memory-layout.false ∙ pick_ne _ _ c.if-st-eq-DISABLED.false
     ∙ pick_same _ _ (sym (ap (λ (x : Answer). x.number) f.ensures) ∙ c.if-form-ne0.false))

@@ -27,16 +27,14 @@ perform-told-requires c =
 
 pub returns : goal.returns
 returns c =
-    let call = c in
-    let known = call in
-    let a = known.args in
-    let p = known.requires in
-    let st = known.fields-st.result in
-    let run = its_fields a.state.now a.layout p.5.0 st p.5.1 known.fields-st.ensures in
+    let a = c.args in
+    let p = c.requires in
+    let st = c.fields-st.result in
+    let run = its_fields a.state.now a.layout p.5.0 st p.5.1 c.fields-st.ensures in
     let whole : (reply : List ℕ) → length reply ≡ a.layout.l
     → exchange_of a.sheet.now a.state.now a.memory.now a.command.now reply ≡ exchanged a.sheet.now a.layout st a.memory.now a.command.now =
     λ reply e. is_exchanged a.sheet.now a.state.now a.memory.now a.command.now reply a.layout p.0 st run p.1 p.3 e in
-    let done = ap (λ (x : Came). x.left) call.perform-told.ensures in
+    let done = ap (λ (x : Came). x.left) c.perform-told.ensures in
     ap₂ performed
     (step_performed a.layout.l a.state.now a.memory.now _ _ p.4 (done ∙ ap (performed_of a.theirs.now a.state.now a.memory.now) (sym (whole _ p.4))))
     (ap (λ (x : Performed). x.reply) done ∙ sym (ap (λ (x : Left). x.reply) (whole a.room.now p.2)))

@@ -12,4 +12,4 @@ returns-in-Whole c = rw c.in-Whole.is
 
 pub returns-in-Bad : goal.returns-in-Bad
 unfolding fault_in
-returns-in-Bad c = rw c.found-1.given.1
+returns-in-Bad c = rw c.in-Bad.is
