@@ -1,6 +1,6 @@
 // The bench program of document 01, on sheet P and its two commands.
 #![tactic(auto)]
 
-fn main() {
-    station::run();
+fn main(rt: HostRuntime) {
+    station::run(&rt, &mut rt.stdin());
 }

@@ -34,60 +34,73 @@ fn entry_size(octet: u8) -> usize
 }
 
 // A number that changed.
-fn print_numbers(field: &[u8], old: u64, new: u64) {
-    print(field);
-    print_number(old);
-    print(b" -> ");
-    print_number(new);
+fn print_numbers(rt: &impl Print, field: &[u8], old: u64, new: u64) {
+    print(rt, field);
+    print_number(rt, old);
+    print(rt, b" -> ");
+    print_number(rt, new);
 }
 
 // An octet that changed and is shown in hex.
-fn print_hex(field: &[u8], old: u8, new: u8) {
-    print(field);
-    print_octet(old);
-    print(b" -> ");
-    print_octet(new);
+fn print_hex(rt: &impl Print, field: &[u8], old: u8, new: u8) {
+    print(rt, field);
+    print_octet(rt, old);
+    print(rt, b" -> ");
+    print_octet(rt, new);
 }
 
 // A changed field of a link record.
-fn print_link(field: u8, old: &[u8], new: &[u8]) {
+fn print_link(rt: &impl Print, field: u8, old: &[u8], new: &[u8]) {
     match field {
         0 => print_numbers(
+            rt,
             b"L ",
             octets::octet(old, 0) as u64,
             octets::octet(new, 0) as u64,
         ),
-        1 => print_hex(b"version ", octets::octet(old, 1), octets::octet(new, 1)),
-        _ => print_hex(b"profile ", octets::octet(old, 2), octets::octet(new, 2)),
+        1 => print_hex(
+            rt,
+            b"version ",
+            octets::octet(old, 1),
+            octets::octet(new, 1),
+        ),
+        _ => print_hex(
+            rt,
+            b"profile ",
+            octets::octet(old, 2),
+            octets::octet(new, 2),
+        ),
     }
 }
 
 // A changed field of a region; its start is its key.
-fn print_region(field: u8, old: &[u8], new: &[u8]) {
+fn print_region(rt: &impl Print, field: u8, old: &[u8], new: &[u8]) {
     if field == 1 {
         print_numbers(
+            rt,
             b"length ",
             octets::le4_at(old, 4) as u64,
             octets::le4_at(new, 4) as u64,
         );
         return;
     }
-    print(b"rights ");
-    fields::print_rights(octets::octet(old, 8));
-    print(b" -> ");
-    fields::print_rights(octets::octet(new, 8));
+    print(rt, b"rights ");
+    fields::print_rights(rt, octets::octet(old, 8));
+    print(rt, b" -> ");
+    fields::print_rights(rt, octets::octet(new, 8));
 }
 
 // A changed field of a parameter; its number is its key.
-fn print_parameter(field: u8, old: &[u8], new: &[u8]) {
+fn print_parameter(rt: &impl Print, field: u8, old: &[u8], new: &[u8]) {
     if field == 1 {
-        print(b"address ");
-        records::print_address(octets::le4_at(old, 2) as u64);
-        print(b" -> ");
-        records::print_address(octets::le4_at(new, 2) as u64);
+        print(rt, b"address ");
+        records::print_address(rt, octets::le4_at(old, 2) as u64);
+        print(rt, b" -> ");
+        records::print_address(rt, octets::le4_at(new, 2) as u64);
         return;
     }
     print_numbers(
+        rt,
         b"size ",
         octets::octet(old, 6) as u64,
         octets::octet(new, 6) as u64,
@@ -95,29 +108,31 @@ fn print_parameter(field: u8, old: &[u8], new: &[u8]) {
 }
 
 // A changed field of an ID item; its code is its key.
-fn print_item(field: u8, old: &[u8], new: &[u8]) {
+fn print_item(rt: &impl Print, field: u8, old: &[u8], new: &[u8]) {
     if field == 1 {
         print_numbers(
+            rt,
             b"length ",
             octets::octet(old, 1) as u64,
             octets::octet(new, 1) as u64,
         );
         return;
     }
-    print(b"octets ");
-    fields::print_content(old);
-    print(b" -> ");
-    fields::print_content(new);
+    print(rt, b"octets ");
+    fields::print_content(rt, old);
+    print(rt, b" -> ");
+    fields::print_content(rt, new);
 }
 
 // A changed field, counted from 0 in the body.
-fn print_field(kind: u8, field: u8, old: &[u8], new: &[u8]) {
+fn print_field(rt: &impl Print, kind: u8, field: u8, old: &[u8], new: &[u8]) {
     match kind {
-        records::LINK | records::SHORT_LINK => print_link(field, old, new),
-        records::REGION => print_region(field, old, new),
-        records::PARAMETER => print_parameter(field, old, new),
-        records::ITEM => print_item(field, old, new),
+        records::LINK | records::SHORT_LINK => print_link(rt, field, old, new),
+        records::REGION => print_region(rt, field, old, new),
+        records::PARAMETER => print_parameter(rt, field, old, new),
+        records::ITEM => print_item(rt, field, old, new),
         _ => print_numbers(
+            rt,
             b"",
             octets::octet(old, 0) as u64,
             octets::octet(new, 0) as u64,
@@ -126,29 +141,29 @@ fn print_field(kind: u8, field: u8, old: &[u8], new: &[u8]) {
 }
 
 // What stands in front of a field: its record, or another field.
-fn print_joint(another: bool) {
+fn print_joint(rt: &impl Print, another: bool) {
     if another {
-        print(b", ");
+        print(rt, b", ");
         return;
     }
-    print(b": ");
+    print(rt, b": ");
 }
 
 // The changed fields of a record, by their bits.
-fn print_fields(kind: u8, bits: u8, old: &[u8], new: &[u8]) {
+fn print_fields(rt: &impl Print, kind: u8, bits: u8, old: &[u8], new: &[u8]) {
     let first = bits % 2 == 1;
     let second = bits / 2 % 2 == 1;
     if first {
-        print_joint(false);
-        print_field(kind, 0, old, new);
+        print_joint(rt, false);
+        print_field(rt, kind, 0, old, new);
     }
     if second {
-        print_joint(first);
-        print_field(kind, 1, old, new);
+        print_joint(rt, first);
+        print_field(rt, kind, 1, old, new);
     }
     if bits / 4 % 2 == 1 {
-        print_joint(first | second);
-        print_field(kind, 2, old, new);
+        print_joint(rt, first | second);
+        print_field(rt, kind, 2, old, new);
     }
 }
 
@@ -175,46 +190,46 @@ fn find(sheet: &[u8], kind: u8, key: u32) -> usize
 }
 
 // A record that changed, by its new body.
-fn print_changed(first: &[u8], kind: u8, bits: u8, body: &[u8]) {
-    records::print_name(kind, body);
+fn print_changed(rt: &impl Print, first: &[u8], kind: u8, bits: u8, body: &[u8]) {
+    records::print_name(rt, kind, body);
     let from = find(first, kind, records::key(kind, body)) + 1;
     // The first sheet has the record, as the list says; a test is shorter than that proof.
     if from <= first.len() {
-        print_fields(kind, bits, &first[from..], body);
+        print_fields(rt, kind, bits, &first[from..], body);
     }
 }
 
 // A record that is new.
-fn print_new(kind: u8, body: &[u8]) {
-    records::print_name(kind, body);
-    print(b": new, ");
-    fields::print_body(kind, body);
+fn print_new(rt: &impl Print, kind: u8, body: &[u8]) {
+    records::print_name(rt, kind, body);
+    print(rt, b": new, ");
+    fields::print_body(rt, kind, body);
 }
 
 // A record that is gone, by its key.
-fn print_gone(kind: u8, key: &[u8]) {
-    records::print_name(kind, key);
-    print(b": gone");
+fn print_gone(rt: &impl Print, kind: u8, key: &[u8]) {
+    records::print_name(rt, kind, key);
+    print(rt, b": gone");
 }
 
 // An entry, by its first octet and what stands behind that.
-fn print_entry(first: &[u8], octet: u8, rest: &[u8]) {
+fn print_entry(rt: &impl Print, first: &[u8], octet: u8, rest: &[u8]) {
     let kind = octet % 16;
     let what = octet / 16;
     match what {
-        GONE => print_gone(kind, rest),
-        NEW => print_new(kind, rest),
+        GONE => print_gone(rt, kind, rest),
+        NEW => print_new(rt, kind, rest),
         _ => {
             if 0 < rest.len() {
-                print_changed(first, kind, rest[0], &rest[1..]);
+                print_changed(rt, first, kind, rest[0], &rest[1..]);
             }
         }
     }
-    print(b"\n");
+    print(rt, b"\n");
 }
 
 // The entry at a place of a list, and the place behind it.
-fn print_at(first: &[u8], list: &[u8], at: usize) -> usize
+fn print_at(rt: &impl Print, first: &[u8], list: &[u8], at: usize) -> usize
     requires { at ≤ 65535 }
     ensures { at < result }
 {
@@ -223,14 +238,14 @@ fn print_at(first: &[u8], list: &[u8], at: usize) -> usize
         return from;
     }
     let octet = list[at];
-    print_entry(first, octet, &list[from..]);
+    print_entry(rt, first, octet, &list[from..]);
     at + entry_size(octet)
 }
 
 // All entries of a list; the longest list is far below the bound, which a proved loop has to have.
-pub fn print_list(first: &[u8], list: &[u8]) {
+pub fn print_list(rt: &impl Print, first: &[u8], list: &[u8]) {
     let mut at: usize = 0;
     while at < 65535 && at < list.len() {
-        at = print_at(first, list, at);
+        at = print_at(rt, first, list, at);
     }
 }

@@ -6,137 +6,143 @@ use crate::records;
 use words::{print, print_number, print_octet};
 
 // 11: nothing where a record should be, or a part of it.
-fn print_ended(sheet: &[u8], place: usize) {
+fn print_ended(rt: &impl Print, sheet: &[u8], place: usize) {
     if 2048 < sheet.len() {
-        print(b"the sheet is over 2048 octets");
+        print(rt, b"the sheet is over 2048 octets");
         return;
     }
     if sheet.len() == 0 {
-        print(b"the sheet is empty");
+        print(rt, b"the sheet is empty");
         return;
     }
     if sheet.len() <= place {
-        print(b"no end record");
+        print(rt, b"no end record");
         return;
     }
     let kind = octets::octet(sheet, place);
-    records::print_kind(kind);
-    print(b" cut: ");
-    print_number((sheet.len() - place) as u64);
-    print(b" of its ");
-    print_number(records::size(kind) as u64);
-    print(b" octets");
+    records::print_kind(rt, kind);
+    print(rt, b" cut: ");
+    print_number(rt, (sheet.len() - place) as u64);
+    print(rt, b" of its ");
+    print_number(rt, records::size(kind) as u64);
+    print(rt, b" octets");
 }
 
 // 12: a kind that no record has.
-fn print_unknown(kind: u8) {
-    print(b"kind ");
-    print_octet(kind);
-    print(b" is unknown: a record begins with 00 to 07");
+fn print_unknown(rt: &impl Print, kind: u8) {
+    print(rt, b"kind ");
+    print_octet(rt, kind);
+    print(rt, b" is unknown: a record begins with 00 to 07");
 }
 
 // 13 behind a record: a kind where another should be, or anything behind the end.
-fn print_late(kind: u8, before: u8) {
+fn print_late(rt: &impl Print, kind: u8, before: u8) {
     if before == records::END {
-        print(b"something stands behind the end record");
+        print(rt, b"something stands behind the end record");
         return;
     }
-    records::print_kind(kind);
-    print(b" behind ");
-    records::print_kind(before);
+    records::print_kind(rt, kind);
+    print(rt, b" behind ");
+    records::print_kind(rt, before);
     if kind == records::LINK || kind == records::SHORT_LINK {
-        print(b": one of link and short link stands first, and once");
+        print(rt, b": one of link and short link stands first, and once");
     } else if kind == before {
-        print(b": it stands once");
+        print(rt, b": it stands once");
     } else {
-        print(b": regions come first, then parameters, ID items, tolerance, rule release");
+        print(
+            rt,
+            b": regions come first, then parameters, ID items, tolerance, rule release",
+        );
     }
 }
 
 // 13: a known kind out of its place.
-fn print_misplaced(place: usize, kind: u8, before: u8) {
+fn print_misplaced(rt: &impl Print, place: usize, kind: u8, before: u8) {
     if place > 0 {
-        print_late(kind, before);
+        print_late(rt, kind, before);
         return;
     }
-    print(b"the sheet begins with ");
-    print_octet(kind);
-    print(b", not with a link or short link, 01 or 05");
+    print(rt, b"the sheet begins with ");
+    print_octet(rt, kind);
+    print(rt, b", not with a link or short link, 01 or 05");
 }
 
 // A field of one octet that is out of range, and what it may be.
-fn print_field(field: &[u8], value: u8, allowed: &[u8]) {
-    print(field);
-    print_number(value as u64);
-    print(allowed);
+fn print_field(rt: &impl Print, field: &[u8], value: u8, allowed: &[u8]) {
+    print(rt, field);
+    print_number(rt, value as u64);
+    print(rt, allowed);
 }
 
 // 14 of a region: its length, its end or its rights.
-fn print_region_range(body: &[u8]) {
+fn print_region_range(rt: &impl Print, body: &[u8]) {
     let start = octets::le4_at(body, 0) as u64;
     let length = octets::le4_at(body, 4) as u64;
     if length == 0 {
-        print(b"length 0: at least 1");
+        print(rt, b"length 0: at least 1");
         return;
     }
     if 4294967296 < start + length {
-        print_number(length);
-        print(b" octets: past address FFFFFFFF");
+        print_number(rt, length);
+        print(rt, b" octets: past address FFFFFFFF");
         return;
     }
-    print(b"rights ");
-    print_octet(octets::octet(body, 8));
-    print(b": only bits 0 to 2 may be set");
+    print(rt, b"rights ");
+    print_octet(rt, octets::octet(body, 8));
+    print(rt, b": only bits 0 to 2 may be set");
 }
 
 // 14 of an ID item: its length, or an octet past it.
-fn print_item_range(length: u8) {
+fn print_item_range(rt: &impl Print, length: u8) {
     if length == 0 || 32 < length {
-        print_field(b"length ", length, b": only 1 to 32");
+        print_field(rt, b"length ", length, b": only 1 to 32");
         return;
     }
-    print(b"an octet behind its length is not zero");
+    print(rt, b"an octet behind its length is not zero");
 }
 
 // 14: a field out of range.
-fn print_range(kind: u8, body: &[u8]) {
+fn print_range(rt: &impl Print, kind: u8, body: &[u8]) {
     let first = octets::octet(body, 0);
-    records::print_name(kind, body);
-    print(b": ");
+    records::print_name(rt, kind, body);
+    print(rt, b": ");
     match kind {
-        records::LINK => print_field(b"L ", first, b": only 8, 16, 32, 48 or 64"),
-        records::REGION => print_region_range(body),
-        records::PARAMETER => print_field(b"size ", octets::octet(body, 6), b": only 1 to 56"),
-        records::ITEM => print_item_range(octets::octet(body, 1)),
-        records::SHORT_LINK => print_field(b"L ", first, b": only 16"),
-        records::TOLERANCE => print_field(b"", first, b": only 0 to 3"),
-        _ => print_field(b"", first, b": only 1 or 2"),
+        records::LINK => print_field(rt, b"L ", first, b": only 8, 16, 32, 48 or 64"),
+        records::REGION => print_region_range(rt, body),
+        records::PARAMETER => print_field(rt, b"size ", octets::octet(body, 6), b": only 1 to 56"),
+        records::ITEM => print_item_range(rt, octets::octet(body, 1)),
+        records::SHORT_LINK => print_field(rt, b"L ", first, b": only 16"),
+        records::TOLERANCE => print_field(rt, b"", first, b": only 0 to 3"),
+        _ => print_field(rt, b"", first, b": only 1 or 2"),
     }
 }
 
 // 15: what the record before has, of the same kind, behind which this one must not go back.
-fn print_disorder(kind: u8, body: &[u8], before: &[u8]) {
-    records::print_name(kind, body);
+fn print_disorder(rt: &impl Print, kind: u8, body: &[u8], before: &[u8]) {
+    records::print_name(rt, kind, body);
     if kind == records::REGION {
-        print(b": starts before ");
-        records::print_address(octets::le4_at(before, 0) as u64 + octets::le4_at(before, 4) as u64);
-        print(b", the end of the region before");
+        print(rt, b": starts before ");
+        records::print_address(
+            rt,
+            octets::le4_at(before, 0) as u64 + octets::le4_at(before, 4) as u64,
+        );
+        print(rt, b", the end of the region before");
         return;
     }
-    print(b": does not rise after ");
-    records::print_key(kind, records::key(kind, before));
+    print(rt, b": does not rise after ");
+    records::print_key(rt, kind, records::key(kind, before));
 }
 
 // 16: more records of a kind, or more memory, than a sheet may have. The 33rd region stands at octet 324.
-fn print_excess(kind: u8, place: usize) {
+fn print_excess(rt: &impl Print, kind: u8, place: usize) {
     match kind {
-        records::PARAMETER => print(b"more than 64 parameters"),
-        records::ITEM => print(b"more than 32 ID items"),
+        records::PARAMETER => print(rt, b"more than 64 parameters"),
+        records::ITEM => print(rt, b"more than 32 ID items"),
         _ => {
             if place < 324 {
-                print(b"more than 65536 octets of memory");
+                print(rt, b"more than 65536 octets of memory");
             } else {
-                print(b"more than 32 regions");
+                print(rt, b"more than 32 regions");
             }
         }
     }
@@ -173,14 +179,15 @@ fn unmapped(sheet: &[u8], address: u32) -> u64 {
 }
 
 // 17: the first octet of a parameter's span that is in no region.
-fn print_unmapped(sheet: &[u8], body: &[u8]) {
-    records::print_name(records::PARAMETER, body);
-    print(b": no region has ");
-    records::print_address(unmapped(sheet, octets::le4_at(body, 2)));
+fn print_unmapped(rt: &impl Print, sheet: &[u8], body: &[u8]) {
+    records::print_name(rt, records::PARAMETER, body);
+    print(rt, b": no region has ");
+    records::print_address(rt, unmapped(sheet, octets::le4_at(body, 2)));
 }
 
 // The fault of a record, by its kind and body, and those of the record before.
 fn print_record(
+    rt: &impl Print,
     sheet: &[u8],
     number: u8,
     place: usize,
@@ -190,21 +197,21 @@ fn print_record(
 ) {
     let kind = octets::octet(sheet, place);
     match number {
-        12 => print_unknown(kind),
-        13 => print_misplaced(place, kind, kind_before),
-        14 => print_range(kind, body),
-        15 => print_disorder(kind, body, body_before),
-        16 => print_excess(kind, place),
-        _ => print_unmapped(sheet, body),
+        12 => print_unknown(rt, kind),
+        13 => print_misplaced(rt, place, kind, kind_before),
+        14 => print_range(rt, kind, body),
+        15 => print_disorder(rt, kind, body, body_before),
+        16 => print_excess(rt, kind, place),
+        _ => print_unmapped(rt, sheet, body),
     }
 }
 
 // A fault of a sheet.
-pub fn print_words(sheet: &[u8], number: u8, place: usize)
+pub fn print_words(rt: &impl Print, sheet: &[u8], number: u8, place: usize)
     requires { place ≤ 65535 }
 {
     if number == 11 {
-        print_ended(sheet, place);
+        print_ended(rt, sheet, place);
         return;
     }
     let last = before(sheet, place);
@@ -215,6 +222,7 @@ pub fn print_words(sheet: &[u8], number: u8, place: usize)
         return;
     }
     print_record(
+        rt,
         sheet,
         number,
         place,

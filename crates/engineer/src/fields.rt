@@ -3,17 +3,17 @@ use crate::records;
 use words::{print, print_number, print_octet, print_octets, print_size};
 
 // A region's rights.
-pub fn print_rights(rights: u8) {
+pub fn print_rights(rt: &impl Print, rights: u8) {
     match rights {
-        0 => print(b"none"),
-        1 => print(b"read"),
-        2 => print(b"write out of step"),
-        3 => print(b"read, write out of step"),
-        4 => print(b"write in step"),
-        5 => print(b"read, write in step"),
-        6 => print(b"write out of step, write in step"),
-        7 => print(b"read, write out of step, write in step"),
-        _ => print_octet(rights),
+        0 => print(rt, b"none"),
+        1 => print(rt, b"read"),
+        2 => print(rt, b"write out of step"),
+        3 => print(rt, b"read, write out of step"),
+        4 => print(rt, b"write in step"),
+        5 => print(rt, b"read, write in step"),
+        6 => print(rt, b"write out of step, write in step"),
+        7 => print(rt, b"read, write out of step, write in step"),
+        _ => print_octet(rt, rights),
     }
 }
 
@@ -29,56 +29,56 @@ fn is_text(octets: &[u8]) -> bool {
 }
 
 // Octets as text where they are one, and else as hex.
-fn print_text(octets: &[u8]) {
+fn print_text(rt: &impl Print, octets: &[u8]) {
     if is_text(octets) {
-        print(b"\"");
-        print(octets);
-        print(b"\"");
+        print(rt, b"\"");
+        print(rt, octets);
+        print(rt, b"\"");
         return;
     }
-    hex::write_hex(octets);
+    hexline::write_hex(rt, octets);
 }
 
 // An ID item's octets, as many as its length says.
-pub fn print_content(body: &[u8]) {
+pub fn print_content(rt: &impl Print, body: &[u8]) {
     let to = 2 + octets::octet(body, 1) as usize;
     if body.len() < to {
         return;
     }
-    print_text(&body[2..to]);
+    print_text(rt, &body[2..to]);
 }
 
 // The three fields of a link record.
-fn print_link(body: &[u8]) {
-    print(b"L ");
-    print_number(octets::octet(body, 0) as u64);
-    print(b", version ");
-    print_octet(octets::octet(body, 1));
-    print(b", profile ");
-    print_octet(octets::octet(body, 2));
+fn print_link(rt: &impl Print, body: &[u8]) {
+    print(rt, b"L ");
+    print_number(rt, octets::octet(body, 0) as u64);
+    print(rt, b", version ");
+    print_octet(rt, octets::octet(body, 1));
+    print(rt, b", profile ");
+    print_octet(rt, octets::octet(body, 2));
 }
 
 // A region's fields behind its start.
-fn print_region(body: &[u8]) {
-    print_octets(octets::le4_at(body, 4) as u64);
-    print(b", rights ");
-    print_rights(octets::octet(body, 8));
+fn print_region(rt: &impl Print, body: &[u8]) {
+    print_octets(rt, octets::le4_at(body, 4) as u64);
+    print(rt, b", rights ");
+    print_rights(rt, octets::octet(body, 8));
 }
 
 // A parameter's fields behind its number.
-fn print_parameter(body: &[u8]) {
-    print(b"address ");
-    records::print_address(octets::le4_at(body, 2) as u64);
-    print_size(octets::octet(body, 6) as u64);
+fn print_parameter(rt: &impl Print, body: &[u8]) {
+    print(rt, b"address ");
+    records::print_address(rt, octets::le4_at(body, 2) as u64);
+    print_size(rt, octets::octet(body, 6) as u64);
 }
 
 // What a record says behind its key; one of a single octet, a tolerance or a rule release, says that. An end has no body, and is not asked.
-pub fn print_body(kind: u8, body: &[u8]) {
+pub fn print_body(rt: &impl Print, kind: u8, body: &[u8]) {
     match kind {
-        records::LINK | records::SHORT_LINK => print_link(body),
-        records::REGION => print_region(body),
-        records::PARAMETER => print_parameter(body),
-        records::ITEM => print_octets(octets::octet(body, 1) as u64),
-        _ => print_number(octets::octet(body, 0) as u64),
+        records::LINK | records::SHORT_LINK => print_link(rt, body),
+        records::REGION => print_region(rt, body),
+        records::PARAMETER => print_parameter(rt, body),
+        records::ITEM => print_octets(rt, octets::octet(body, 1) as u64),
+        _ => print_number(rt, octets::octet(body, 0) as u64),
     }
 }

@@ -38,51 +38,51 @@ pub fn key(kind: u8, body: &[u8]) -> u32 {
 }
 
 // An address in eight digits.
-pub fn print_address(address: u64) {
-    print_octet((address / 16777216 % 256) as u8);
-    print_octet((address / 65536 % 256) as u8);
-    print_octet((address / 256 % 256) as u8);
-    print_octet((address % 256) as u8);
+pub fn print_address(rt: &impl Print, address: u64) {
+    print_octet(rt, (address / 16777216 % 256) as u8);
+    print_octet(rt, (address / 65536 % 256) as u8);
+    print_octet(rt, (address / 256 % 256) as u8);
+    print_octet(rt, (address % 256) as u8);
 }
 
 // An ID code in hex, as it stands in a command.
-fn print_code(code: u32) {
+fn print_code(rt: &impl Print, code: u32) {
     let octet = (code % 256) as u8;
     if octet < 16 {
-        hex::write_digit(octet);
+        hexline::write_digit(rt, octet);
         return;
     }
-    print_octet(octet);
+    print_octet(rt, octet);
 }
 
 // A kind's name.
-pub fn print_kind(kind: u8) {
+pub fn print_kind(rt: &impl Print, kind: u8) {
     match kind {
-        END => print(b"end"),
-        LINK => print(b"link"),
-        REGION => print(b"region"),
-        PARAMETER => print(b"parameter"),
-        ITEM => print(b"ID item"),
-        SHORT_LINK => print(b"short link"),
-        TOLERANCE => print(b"tolerance"),
-        _ => print(b"rule release"),
+        END => print(rt, b"end"),
+        LINK => print(rt, b"link"),
+        REGION => print(rt, b"region"),
+        PARAMETER => print(rt, b"parameter"),
+        ITEM => print(rt, b"ID item"),
+        SHORT_LINK => print(rt, b"short link"),
+        TOLERANCE => print(rt, b"tolerance"),
+        _ => print(rt, b"rule release"),
     }
 }
 
 // A key as its kind has it.
-pub fn print_key(kind: u8, key: u32) {
+pub fn print_key(rt: &impl Print, kind: u8, key: u32) {
     match kind {
-        REGION => print_address(key as u64),
-        PARAMETER => print_number(key as u64),
-        _ => print_code(key),
+        REGION => print_address(rt, key as u64),
+        PARAMETER => print_number(rt, key as u64),
+        _ => print_code(rt, key),
     }
 }
 
 // A record by its kind and key.
-pub fn print_name(kind: u8, body: &[u8]) {
-    print_kind(kind);
+pub fn print_name(rt: &impl Print, kind: u8, body: &[u8]) {
+    print_kind(rt, kind);
     if kind == REGION || kind == PARAMETER || kind == ITEM {
-        print(b" ");
-        print_key(kind, key(kind, body));
+        print(rt, b" ");
+        print_key(rt, kind, key(kind, body));
     }
 }

@@ -1,87 +1,121 @@
 // Files by the program's arguments, or by default names where an argument is left out.
 #![tactic(auto)]
 
-ghost use Rattle.io.specs.Counts.{IsPrefixLen};
+pub mod failing; // failing.rt: why a file cannot be opened
 
-use libc::STDOUT_FILENO;
+ghost use Rattle.std.specs.Prelude.{◌≤◌, length};
+
+use std::env::FillError;
+use std::io::{ErrorKind, Read};
+use std::rt::{Env, Files};
+use std::{fs, str};
+
+// Room for any path that the system takes.
+const PATH_ROOM: usize = 4096;
 
 // A line about a file.
-fn print_about(path: &[u8], what: &[u8]) {
-    io::write_all(STDOUT_FILENO, path);
-    io::write_all(STDOUT_FILENO, what);
+fn print_about(rt: &impl Print, path: &[u8], what: &[u8]) {
+    let _ = rt.write_all(path);
+    let _ = rt.write_all(what);
 }
 
 // A line about the file of an argument.
-pub fn print_line(i: usize, name: &[u8], what: &[u8]) {
-    let mut path = io::buffer();
-    let n = os::arg(i, &mut path);
-    if n == 0 {
-        print_about(name, what);
-        return;
+pub fn print_line(rt: &(impl Env + Print), i: usize, name: &[u8], what: &[u8]) {
+    let mut path = [0u8; PATH_ROOM];
+    match rt.arg(i, &mut path) {
+        Ok(n) if n > 0 => print_about(rt, &path[..n], what),
+        _ => print_about(rt, name, what),
     }
-    print_about(&path[..n], what);
 }
 
-// A file open for reading; one that is not gets its line, and the answer is negative.
-fn open_named(path: &[u8]) -> i32 {
-    let fd = os::open_read(path);
-    if fd >= 0 {
-        return fd;
+// A file open for reading; one that is not gets its line. A name that is not UTF-8 is none that can be asked for.
+fn open_named<R: Files + Print>(rt: &R, path: &[u8]) -> Option<R::File> {
+    let Ok(name) = str::from_utf8(path) else {
+        print_about(rt, path, b": cannot be opened\n");
+        return None;
+    };
+    match fs::open(rt, name) {
+        Ok(file) => Some(file),
+        Err(error) => {
+            if error.kind() == ErrorKind::NotFound {
+                print_about(rt, path, b": missing\n");
+            } else {
+                print_about(rt, path, b": cannot be opened\n");
+            }
+            None
+        }
     }
-    if os::errno() == libc::ENOENT {
-        print_about(path, b": missing\n");
-        return fd;
-    }
-    print_about(path, b": cannot be opened\n");
-    fd
 }
 
 // The file of an argument, or of its default name where there is none or an empty one.
-pub fn open(i: usize, name: &[u8]) -> i32 {
-    let mut path = io::buffer();
-    let n = os::arg(i, &mut path);
-    if os::errno() == libc::ENAMETOOLONG {
-        print_about(name, b": the name given for it is too long\n");
-        return -1;
+pub fn open<R: Files + Env + Print>(rt: &R, i: usize, name: &[u8]) -> Option<R::File> {
+    let mut path = [0u8; PATH_ROOM];
+    match rt.arg(i, &mut path) {
+        Err(FillError::TooLong) => {
+            print_about(rt, name, b": the name given for it is too long\n");
+            None
+        }
+        Ok(n) if n > 0 => open_named(rt, &path[..n]),
+        _ => open_named(rt, name),
     }
-    if n == 0 {
-        return open_named(name);
+}
+
+// Reads until lent room is full, the input ends or a read fails; how many octets stand at its front.
+pub fn read_full(input: &mut impl Read, room: &mut [u8]) -> usize
+    ensures { result ≤ length room.new }
+{
+    let mut done = 0;
+    while done < room.len() {
+        match input.read(&mut room[done..]) {
+            Ok(n) if n > 0 => done += n,
+            _ => break,
+        }
     }
-    open_named(&path[..n])
+    done
 }
 
 // Whether a file that gave no more octets is at its end: a read that fails gives none either, and gets its line.
-pub fn is_at_end(fd: i32, i: usize, name: &[u8]) -> bool {
+pub fn is_at_end(rt: &(impl Env + Print), file: &mut impl Read, i: usize, name: &[u8]) -> bool {
     let mut one = [0u8; 1];
-    if libc::read(fd, &mut one) < 0 {
-        print_line(i, name, b": cannot be read\n");
+    if file.read(&mut one).is_err() {
+        print_line(rt, i, name, b": cannot be read\n");
         return false;
     }
     true
 }
 
 // A file as far as lent room goes; how many octets were read. One that cannot be read gets its line.
-pub fn take(fd: i32, i: usize, name: &[u8], room: &mut [u8]) -> usize
-    ensures { IsPrefixLen result room.new }
+pub fn take(
+    rt: &(impl Env + Print),
+    mut file: impl Read + Drop,
+    i: usize,
+    name: &[u8],
+    room: &mut [u8],
+) -> usize
+    ensures { result ≤ length room.new }
 {
-    let n = io::read_full(fd, room);
+    let n = read_full(&mut file, room);
     if n < room.len() {
-        is_at_end(fd, i, name);
+        is_at_end(rt, &mut file, i, name);
     }
-    libc::close(fd);
     n
 }
 
 // A file whole in lent room that has one octet more than such a file may have; how many octets it has.
-pub fn read(fd: i32, i: usize, name: &[u8], room: &mut [u8]) -> usize
-    ensures { IsPrefixLen result room.new }
+pub fn read(
+    rt: &(impl Env + Print),
+    mut file: impl Read + Drop,
+    i: usize,
+    name: &[u8],
+    room: &mut [u8],
+) -> usize
+    ensures { result ≤ length room.new }
 {
-    let n = io::read_full(fd, room);
+    let n = read_full(&mut file, room);
     if n == room.len() {
-        print_line(i, name, b": too long\n");
-    } else if is_at_end(fd, i, name) && n == 0 {
-        print_line(i, name, b": empty\n");
+        print_line(rt, i, name, b": too long\n");
+    } else if is_at_end(rt, &mut file, i, name) && n == 0 {
+        print_line(rt, i, name, b": empty\n");
     }
-    libc::close(fd);
     n
 }

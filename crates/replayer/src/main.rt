@@ -1,6 +1,6 @@
 // The fitter's program on sheet P and a trace in which every reply agrees.
 #![tactic(auto)]
 
-fn main() {
-    fitter::run();
+fn main(rt: HostRuntime) {
+    fitter::run(&rt);
 }

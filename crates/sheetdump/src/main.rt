@@ -1,6 +1,6 @@
 // The process engineer's program, on a sheet that has every kind of record.
 #![tactic(auto)]
 
-fn main() {
-    engineer::dump::run();
+fn main(rt: HostRuntime) {
+    engineer::dump::run(&rt);
 }

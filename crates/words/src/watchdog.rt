@@ -26,39 +26,39 @@ fn next(last: u8) -> u8 {
 }
 
 // One of the two counts.
-fn print_count(name: &[u8], expected: u8, seen: u8) {
-    print(name);
-    print_number(expected as u64);
-    print(b" expected, ");
-    print_number(seen as u64);
-    print(b" seen");
+fn print_count(rt: &impl Print, name: &[u8], expected: u8, seen: u8) {
+    print(rt, name);
+    print_number(rt, expected as u64);
+    print(rt, b" expected, ");
+    print_number(rt, seen as u64);
+    print(rt, b" seen");
 }
 
 // One more in a row than the sheet tolerates; one that tolerates none has nothing to say.
-fn print_one_more(tolerance: u8) {
+fn print_one_more(rt: &impl Print, tolerance: u8) {
     match tolerance {
-        1 => print(b"the 2nd in a row, 1 is tolerated: "),
-        2 => print(b"the 3rd in a row, 2 are tolerated: "),
-        3 => print(b"the 4th in a row, 3 are tolerated: "),
-        _ => print(b""),
+        1 => print(rt, b"the 2nd in a row, 1 is tolerated: "),
+        2 => print(rt, b"the 3rd in a row, 2 are tolerated: "),
+        3 => print(rt, b"the 4th in a row, 3 are tolerated: "),
+        _ => print(rt, b""),
     }
 }
 
 // Which one in a row it is, behind so many failures.
-fn print_row(failures: u8, tolerance: u8) {
+fn print_row(rt: &impl Print, failures: u8, tolerance: u8) {
     if tolerance <= failures {
-        print_one_more(tolerance);
+        print_one_more(rt, tolerance);
         return;
     }
-    print(b"tolerated, ");
-    print_number(failures as u64 + 1);
-    print(b" of ");
-    print_number(tolerance as u64);
-    print(b" in a row: ");
+    print(rt, b"tolerated, ");
+    print_number(rt, failures as u64 + 1);
+    print(rt, b" of ");
+    print_number(rt, tolerance as u64);
+    print(rt, b" in a row: ");
 }
 
 // The line, by the state record before the exchange; a command that the watchdog takes, or that it is not asked of, has none.
-pub fn print_failed(form: Form, state: &[u8], command: &[u8], tolerance: u8) {
+pub fn print_failed(rt: &impl Print, form: Form, state: &[u8], command: &[u8], tolerance: u8) {
     let link = octets::octet(state, AT_LINK);
     let known = octets::octet(state, AT_KNOWN);
     if link != IN_STEP || known == 0 {
@@ -72,9 +72,9 @@ pub fn print_failed(form: Form, state: &[u8], command: &[u8], tolerance: u8) {
     if wdt % 16 == mn && wdt / 16 == rsn {
         return;
     }
-    print(b"ours failed the watchdog: ");
-    print_row(octets::octet(state, AT_FAILURES), tolerance);
-    print_count(b"MN ", mn, wdt % 16);
-    print_count(b"; SN ", rsn, wdt / 16);
-    print(b"\n");
+    print(rt, b"ours failed the watchdog: ");
+    print_row(rt, octets::octet(state, AT_FAILURES), tolerance);
+    print_count(rt, b"MN ", mn, wdt % 16);
+    print_count(rt, b"; SN ", rsn, wdt / 16);
+    print(rt, b"\n");
 }

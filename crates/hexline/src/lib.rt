@@ -3,8 +3,6 @@
 
 ghost use Rattle.std.specs.Prelude.{◌≤◌, length};
 
-use libc::STDOUT_FILENO;
-
 // The hex digit of a half octet.
 fn digit(half: u8) -> u8 {
     let n = half % 16;
@@ -15,8 +13,8 @@ fn digit(half: u8) -> u8 {
 }
 
 // One digit; whether it was written.
-pub fn write_digit(half: u8) -> bool {
-    io::write_all(STDOUT_FILENO, &[digit(half)])
+pub fn write_digit(rt: &impl Print, half: u8) -> bool {
+    rt.write_all(&[digit(half)]).is_ok()
 }
 
 // The digits of octets, two for each, at the front of a line, as far as it goes; how many there are.
@@ -38,13 +36,13 @@ fn digits(octets: &[u8], line: &mut [u8]) -> usize
 }
 
 // The digits of up to 64 octets; whether they were written.
-pub fn write_hex(octets: &[u8]) -> bool {
+pub fn write_hex(rt: &impl Print, octets: &[u8]) -> bool {
     let mut line = [0u8; 128];
     let n = digits(octets, &mut line);
-    io::write_all(STDOUT_FILENO, &line[..n])
+    rt.write_all(&line[..n]).is_ok()
 }
 
 // One line of up to 64 octets; whether it was written.
-pub fn print_hex(octets: &[u8]) -> bool {
-    write_hex(octets) & io::write_all(STDOUT_FILENO, b"\n")
+pub fn print_hex(rt: &impl Print, octets: &[u8]) -> bool {
+    write_hex(rt, octets) & rt.write_all(b"\n").is_ok()
 }
