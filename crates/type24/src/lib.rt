@@ -1,4 +1,5 @@
 // The slave's calls for C hosts: numbers and byte slices alone cross this boundary, and every call checks every lent length itself.
+// The archive that hosts link is made of the crate type24_c, which exports each of these calls under its own name.
 // An answer is one number: document 01's, or for a replay or a difference document 02's or our own, + 2^32 × place; of `t24_lengths` it is L + 2^32 × the memory's length, of
 // `t24_version` the release.
 #![tactic(auto)]
