@@ -3,7 +3,8 @@
 
 pub mod failing; // failing.rt: why a file cannot be opened
 
-ghost use Rattle.std.specs.Prelude.{◌≤◌, length};
+ghost use Rattle.std.specs.Prelude.{◌≤◌, length, take};
+ghost use Rattle.std.specs.Io.KnownBytes.{Consumes};
 
 use std::env::FillError;
 use std::io::{ErrorKind, Read};
@@ -60,15 +61,21 @@ pub fn open<R: Files + Env + Print>(rt: &R, i: usize, name: &[u8]) -> Option<R::
     }
 }
 
-// Reads until lent room is full, the input ends or a read fails; how many octets stand at its front.
-pub fn read_full(input: &mut impl Read, room: &mut [u8]) -> usize
-    ensures { result ≤ length room.new }
+// Reads until lent room is full, the input ends or a read fails; how many octets stand at its front, which are what the input had first.
+pub fn read_full<I: Read>(input: &mut I, room: &mut [u8]) -> usize
+    ensures in_bounds { result ≤ length room.new }
+    ensures front { Consumes (I.remaining input.old) (I.remaining input.new) (take result room.new) }
 {
     let mut done = 0;
     while done < room.len() {
         match input.read(&mut room[done..]) {
-            Ok(n) if n > 0 => done += n,
-            _ => break,
+            Ok(n) => {
+                if n == 0 {
+                    break;
+                }
+                done += n;
+            }
+            Err(_) => break,
         }
     }
     done

@@ -1,5 +1,5 @@
-// The fitter's program: a replay of trace.bin on the sheet, the state and the memory of files, told in plain lines. A program has no heap, so the
-// trace goes by in pieces that end between records.
+// The fitter's program: a replay of trace.bin on the sheet, the state and the memory of files, told in plain lines. The program allocates nothing, so
+// the trace goes by in pieces that end between records.
 #![tactic(auto)]
 
 mod showing; // showing.rt: a difference, octet by octet
