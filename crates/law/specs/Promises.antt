@@ -23,7 +23,7 @@ use Rattle.type24.specs.contracts.t24_lengths as t24_lengths
 use Rattle.type24.specs.contracts.t24_reset as t24_reset
 use Rattle.type24.specs.contracts.t24_enable as t24_enable
 use Rattle.type24.specs.contracts.t24_turn as t24_turn
-use Rattle.type24.specs.contracts.t24_version as t24-version
+use Rattle.type24.specs.contracts.t24_version as t24_version
 use Rattle.type24.specs.contracts.t24_exchange as t24_exchange
 use Rattle.type24.specs.contracts.t24_replay as t24_replay
 use Rattle.type24.specs.contracts.t24_difference as t24_difference
@@ -76,7 +76,7 @@ pub record Promises {M : Type 1} {𝓤 : Ura M} (𝓛 : Logic 𝓤) (mem : Machi
   pub of_turn : t24_turn.spec 𝓛 mem run
       ≡ closing 𝓛 t24_turn.ended (Only 𝓤 t24_turn.ended (λ κs lent a after.
       TurnPromise lent.0.now lent.1.0.now lent.1.1.0.now a after.1.1.0.now))
-  pub of_version : t24-version.spec 𝓛 mem run ≡ closing 𝓛 t24-version.ended (Only 𝓤 t24-version.ended (λ κs lent a after. VersionPromise a))
+  pub of_version : t24_version.spec 𝓛 mem run ≡ closing 𝓛 t24_version.ended (Only 𝓤 t24_version.ended (λ κs lent a after. VersionPromise a))
   pub of_exchange : t24_exchange.spec 𝓛 mem run
       ≡ closing 𝓛 t24_exchange.ended (Only 𝓤 t24_exchange.ended (λ κs lent a after.
       ExchangePromise lent.0.now lent.1.0.now lent.1.1.0.now lent.1.1.1.0.now lent.1.1.1.1.0.now
