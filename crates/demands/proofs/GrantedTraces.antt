@@ -5,7 +5,7 @@ use mathlib.Core.Logic.{inl, inr}
 use mathlib.Core.Path.{◌≡◌, refl, sym, ap, subst, ◌∙◌}
 use Prim.Native.Nat.{ℕ, zero, suc, ◌+◌, ◌≤◌, ◌<◌}
 use native.Mathlib.Omega.{arith}
-use lib.ListN.{length, replicate}
+use lib.ListN.{replicate}
 use Rattle.octets.proofs.Pick.{pick_eq}
 use Rattle.law.specs.Words.{when, bit, Every}
 use Rattle.law.specs.Sheet.{enhanced, Region, Sheet, WellFormed, sheet_octets}

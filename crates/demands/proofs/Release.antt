@@ -3,14 +3,14 @@
 --     fate_same        where those octets are zero, a command's fate is the same
 use mathlib.Core.Bool.{true, false, not}
 use mathlib.Core.List.{List, [], ◌∷◌, ◌++◌}
-use mathlib.Core.Logic.{◌⊎◌, ⊎_elim}
+use mathlib.Core.Logic.{⊎_elim}
 use mathlib.Core.Path.{◌≡◌, refl, sym, ap, ap₂, subst, ◌∙◌}
 use Prim.Native.Nat.{ℕ, suc}
 use native.Mathlib.Omega.{arith}
 use borrow.Author.Tests.{eq-eqb, ne_eqb, eqb-true, not-true}
 use lib.Dec.{eqb}
 use lib.ListN.{length, take, drop, replicate}
-use Rattle.octets.proofs.Cases.{decided, eq_or_ne}
+use Rattle.octets.proofs.Cases.{eq_or_ne}
 use Rattle.law.specs.Words.{when, Every, one_of, Piece, over}
 use Rattle.law.specs.Sheet.{PduType, enhanced, short, Sheet, WellFormed, is_release2, sheet_octets, room}
 use Rattle.law.specs.State.{link, valid_state}

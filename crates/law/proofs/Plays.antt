@@ -31,7 +31,7 @@ use Rattle.slave.proofs.Differs.{differs_most}
 use Rattle.slave.proofs.Order.{on_valid, on_invalid, on_state_lem}
 use Rattle.law.specs.Words.{when, Every}
 use Rattle.law.specs.Sheet.{Sheet, WellFormed, sheet_octets, room, allows}
-use Rattle.law.specs.State.{link, valid_state}
+use Rattle.law.specs.State.{valid_state}
 use Rattle.law.specs.Memory.{cells}
 use Rattle.law.specs.Exchange.{fate_of}
 use Rattle.law.specs.Calls.{Result, result, done}

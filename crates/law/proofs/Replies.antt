@@ -20,7 +20,7 @@ use Rattle.frame.proofs.Replies.{begun_at, begun_enhanced, begun_short, rwdt_tol
 use Rattle.law.specs.Words.{when, laid, over}
 use Rattle.law.specs.Sheet.{PduType, enhanced, short, Sheet, allows}
 use Rattle.law.specs.Table.{Check, Row, table, table_of}
-use Rattle.law.specs.Exchange.{Fate, code, wdt, mn, identity, refused, checked, judged, fate_of, state_after, rwdt_for, low_status, head_for, reply_for, tolerated, lost}
+use Rattle.law.specs.Exchange.{Fate, code, mn, refused, checked, judged, fate_of, state_after, rwdt_for, low_status, head_for, reply_for, tolerated, lost}
 use Rattle.link.specs.Stored.{octets_of}
 use Rattle.link.specs.Valid.{is_communication_alarm}
 use Rattle.link.specs.declared.state.LinkState.{LinkState}

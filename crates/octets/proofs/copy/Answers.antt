@@ -1,6 +1,6 @@
 -- `octets::copy` meets its contract: after i turns the part has the source's first i octets and its own behind them.
 use mathlib.Core.Path.{refl, ◌∙◌}
-use Prim.Native.Nat.{◌<◌, ◌-◌}
+use Prim.Native.Nat.{◌<◌}
 use native.Mathlib.Omega.{arith}
 use lib.ListN.{length, length-set}
 use Rattle.octets.proofs.Parts.{copied_more, copied_source_end, copied_part_end}

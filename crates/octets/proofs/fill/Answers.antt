@@ -1,7 +1,7 @@
 -- `octets::fill` meets its contract: after i turns the first i octets are v, and those behind are as they came.
 use mathlib.Core.Path.{◌≡◌, refl, ◌∙◌}
 use mathlib.Core.List.{append-nil}
-use Prim.Native.Nat.{◌<◌, ◌-◌}
+use Prim.Native.Nat.{◌<◌}
 use native.Mathlib.Omega.{arith}
 use borrow.Author.Fill.{fill_more}
 use lib.ListN.{length, length-set, drop_of_length-le}

@@ -9,7 +9,6 @@ use Rattle.regions.specs.Search.{spot_of, place_in, before_of}
 use Rattle.regions.specs.declared.Right.{Right}
 use Rattle.regions.proofs.Kept.{kept_first, kept_octet, kept_region, kept_within, kept_out, kept_denied, kept_ends}
 use Rattle.regions.proofs.Placed.{Placed, placed_first, placed_octet, placed_region, placed_found, reach_short, reach_none, reach_all}
-use Rattle.regions.proofs.search.before.Invariants.{Next}
 use Rattle.regions.proofs.search.before.Goals as goal
 use Rattle.regions.proofs.search.before.Goals.{Left-octets, else-octets-test, then-octets-test+then-loop-end-test+then-last-place, then-octets-test+then-loop-end-test+else-last-place+then-denies}
 

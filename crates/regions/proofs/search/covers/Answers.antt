@@ -1,5 +1,5 @@
 -- `regions::search::covers` meets its contract: what stands behind the search of a span (Passing), with the right that every region gives.
-use Prim.Native.Nat.{◌+◌, ◌-◌}
+use Prim.Native.Nat.{◌+◌}
 use mathlib.Core.Path.{refl}
 use native.Mathlib.Omega.{arith}
 use Rattle.regions.specs.Region.{region_at, gives_of}
