@@ -14,10 +14,10 @@ use Rattle.law.proofs.Bits.{bits_of_records}
 use Rattle.law.proofs.Empties.{empty_merge}
 use Rattle.law.proofs.GoodEntries.{GoodEntry, entries_good}
 use Rattle.law.proofs.Merge.{Rising, Shaped, merge}
-use Rattle.law.proofs.OneList.{every_in, one_at, one_list as lists-once}
+use Rattle.law.proofs.OneList.{every_in, one_at, one_list as lists_once}
 use Rattle.law.proofs.OneSheet.{one_sheet}
 use Rattle.law.proofs.Ranks.{has_in, same_yes, same_self, same_entry}
-use Rattle.law.proofs.ReadBack.{read_one_way as read-once}
+use Rattle.law.proofs.ReadBack.{read_one_way as read_once}
 use Rattle.law.proofs.Records.{written_entries}
 use Rattle.law.proofs.Rises.{entries_rise, entries_shaped}
 use Rattle.law.proofs.Told.{the_list, is_merge}
@@ -27,7 +27,7 @@ use Rattle.demands.specs.Changed.{kind_of, key_of, OneForARecord, UnchangedIsNot
 pub one_list : OneList
 one_list = record {
   there_is_one = λ a b v w. (merge (entries_of a) (entries_of b), the_list a b v w);
-  and_no_other = λ a b. lists-once (entries_of a) (entries_of b);
+  and_no_other = λ a b. lists_once (entries_of a) (entries_of b);
 }
 
 pub empty_exactly_if_equal : EmptyExactlyIfEqual
@@ -45,7 +45,7 @@ applied_gives_second a b v w list l =
     (e, ap written_of e ∙ sym (written_entries b))
 
 pub read_one_way : ReadOneWay
-read_one_way = read-once
+read_one_way = read_once
 
 -- two differences about one record: of each sheet there is one such record, and it is there or not
 module _ (a b : List Entry) (list : List Change) (l : Lists a b list) where

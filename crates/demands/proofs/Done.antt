@@ -197,13 +197,13 @@ module _ (h : Sheet) (s m c : List ℕ) (good : GoodLength h.pdu h.l) where
       (lt_or_le k h.l)
 
   -- the watchdog's fields stand behind the link
-  watched_further : (linkBefore linkAfter : ℕ) (b d : Bool) (x y : ℕ)
+  watched_further : (link_before link_after : ℕ) (b d : Bool) (x y : ℕ)
       → Every (λ (p : Piece). 1 < p.first) (when b (when d (piece 5 (1 ∷ x ∷ y ∷ []) ∷ []) (piece 3 (0 ∷ []) ∷ piece 5 (0 ∷ 0 ∷ 0 ∷ []) ∷ piece 10 (0 ∷ []) ∷ [])) (when d (piece 5 (0 ∷ 0 ∷ 0 ∷ []) ∷ []) []))
   unfolding when
-  watched_further linkBefore linkAfter true true x y = (omega arith, tt)
-  watched_further linkBefore linkAfter true false x y = (omega arith, (omega arith, (omega arith, tt)))
-  watched_further linkBefore linkAfter false true x y = (omega arith, tt)
-  watched_further linkBefore linkAfter false false x y = tt
+  watched_further link_before link_after true true x y = (omega arith, tt)
+  watched_further link_before link_after true false x y = (omega arith, (omega arith, (omega arith, tt)))
+  watched_further link_before link_after false true x y = (omega arith, tt)
+  watched_further link_before link_after false false x y = tt
 
   pub seen_link : 2 ≤ length s → link t ≡ laid f.changes 1 (link s)
   unfolding state_after watched

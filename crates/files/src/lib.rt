@@ -3,7 +3,7 @@
 
 pub mod failing; // failing.rt: why a file cannot be opened
 
-ghost use Rattle.std.specs.Prelude.{◌≤◌, length, take};
+ghost use Rattle.std.specs.Prelude.{◌≡◌, ◌≤◌, length, take};
 ghost use Rattle.std.specs.Io.KnownBytes.{Consumes};
 
 use std::env::FillError;
@@ -99,7 +99,8 @@ pub fn take(
     name: &[u8],
     room: &mut [u8],
 ) -> usize
-    ensures { result ≤ length room.new }
+    ensures in_bounds { result ≤ length room.new }
+    ensures front { result ≡ length (take result room.new) }
 {
     let n = read_full(&mut file, room);
     if n < room.len() {
@@ -116,7 +117,8 @@ pub fn read(
     name: &[u8],
     room: &mut [u8],
 ) -> usize
-    ensures { result ≤ length room.new }
+    ensures in_bounds { result ≤ length room.new }
+    ensures front { result ≡ length (take result room.new) }
 {
     let n = read_full(&mut file, room);
     if n == room.len() {

@@ -10,7 +10,7 @@ use lib.ListN.{length, get_or, take, drop}
 use Rattle.octets.specs.Pick.{pick}
 use Rattle.octets.proofs.Cases.{eq_or_ne}
 use Rattle.octets.proofs.Pick.{pick_yes, pick_no}
-use Rattle.frame.specs.Unnamed.{names_of, is_named as isNamedThere, stray_as}
+use Rattle.frame.specs.Unnamed.{names_of, is_named as is_named_there, stray_as}
 use Rattle.frame.proofs.Named.{named, whole_at, wdt_enhanced, wdt_short}
 use Rattle.link.specs.Stored.{octets_of}
 use Rattle.link.specs.declared.state.LinkState.{LinkState}
@@ -86,7 +86,7 @@ module _ (pdu : PduType) (h : Sheet) (sheet : List ℕ) (st : LinkState) (m c : 
     pub known : (d : Judgement) (r : Row) (n : ℕ) → is_known form k ≡ true → is_allowed st.link k ≡ one_of (link s) r.links → data_of sheet lay st (named form k c) ≡ d
         → r.checks ≡ take n r.checks ++ check (eqb (stray_in h s m c pdu r.named) 0) 9 (stray_in h s m c pdu r.named) ∷ drop (suc n) r.checks
         → alarmed 9 (take n r.checks) ≡ true → alarmed 10 (drop (suc n) r.checks) ≡ true
-        → ((i : ℕ) → isNamedThere (names_of form k c) i ≡ is_named (head_named pdu ++ r.named) i)
+        → ((i : ℕ) → is_named_there (names_of form k c) i ≡ is_named (head_named pdu ++ r.named) i)
         → judged s k rows ≡ checked s (check (one_of (link s) r.links) 12 0 ∷ r.checks) r
         → (one_of (link s) r.links ≡ true → Is d (checked s (take n r.checks ++ drop (suc n) r.checks) r))
         → Is (judge_of sheet lay st (named form k c) stray_here) (judged s k rows)

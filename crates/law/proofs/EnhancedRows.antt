@@ -10,7 +10,7 @@ use Rattle.octets.specs.Parts.{part}
 use Rattle.octets.specs.Pick.{pick}
 use Rattle.frame.proofs.Bodies.{body_at, parameter_at_lem, memory_at, parameter_data_lem, memory_data, identifies_at, alarms_at_lem, connects_at}
 use Rattle.frame.proofs.Kept.{alarms_keep, connects_keep}
-use Rattle.frame.specs.Unnamed.{names_of, is_named as isNamedThere, stray_as}
+use Rattle.frame.specs.Unnamed.{names_of, is_named as is_named_there, stray_as}
 use Rattle.frame.proofs.Names.{enhanced_nop, enhanced_prm_rd, enhanced_prm_wr, enhanced_id_rd, enhanced_alm_rd, enhanced_alm_clr, enhanced_sync_set, enhanced_connect, enhanced_disconnect, enhanced_mem_rd, enhanced_mem_wr}
 use Rattle.frame.proofs.Named.{named, two_enhanced, is_enhanced, whole_at, count_at, mode_at, address_at, profile_at, alarm_mode_at}
 use Rattle.frame.proofs.Rooms.{memory_room}
@@ -33,7 +33,7 @@ use Rattle.law.specs.Words.{when, one_of, Piece, piece, laid}
 use Rattle.law.specs.Sheet.{enhanced, Sheet, FiveLengths, allows as most}
 use Rattle.law.specs.State.{link}
 use Rattle.law.specs.Memory.{cells, readable, writable}
-use Rattle.law.specs.Table.{Run, Row, row, head_named, is_named, enhanced_table, memory_checks as memChecks, memory_rights, count, address, n as span, element}
+use Rattle.law.specs.Table.{Run, Row, row, head_named, is_named, enhanced_table, memory_checks as mem_checks, memory_rights, count, address, n as span, element}
 use Rattle.law.specs.Exchange.{Fate, code, checked, judged}
 use Rattle.law.proofs.Codes.{by_code, wdt_same, Is, known, unknown, read_is, write_is, allowing}
 use Rattle.law.proofs.Fields.{less_not, none_not, two_octets, four_octets, elements}
@@ -121,7 +121,7 @@ module _ (h : Sheet) (sheet : List ℕ) (st : LinkState) (m c : List ℕ) (facts
 
     -- 1D MEM_RD, 1E MEM_WR
     mem_row : (writes : Bool) (right : ℕ → Bool) → ((x : ℕ) → right x ≡ gives_of x (right_of writes st.link))
-        → Here (memory_of writes sheet lay st (named Enhanced k c)) (checked s (memChecks h s m c ++ memory_rights h s m c right)
+        → Here (memory_of writes sheet lay st (named Enhanced k c)) (checked s (mem_checks h s m c ++ memory_rights h s m c right)
         (row 0 [] [] [] [] (echo_in 9 ∷ data_piece writes (from_in 9) (cells h.regions) m c (address h s m c) (span h s m c) ∷ [])
         (written writes (from_in 9) c (address h s m c) (span h s m c))))
     unfolding memory_of checked
@@ -140,7 +140,7 @@ module _ (h : Sheet) (sheet : List ℕ) (st : LinkState) (m c : List ℕ) (facts
         (memory_room Enhanced n h.l (pdu_sized enhanced h.l world.long good) (leb-true 1 n b) (leb-true n _ f)) _ address_at 0 [] [] [])))))
 
   -- the data that MEM_WR names
-  mem_named : (i : ℕ) → isNamedThere (names_of Enhanced 0x1E c) i ≡ is_named (head_named enhanced ++ (row_at 10).named) i
+  mem_named : (i : ℕ) → is_named_there (names_of Enhanced 0x1E c) i ≡ is_named (head_named enhanced ++ (row_at 10).named) i
   mem_named i =
       let d = named Enhanced 0x1E c in
       let x = d.offset in

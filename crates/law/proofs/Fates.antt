@@ -17,7 +17,7 @@ use Rattle.law.specs.Words.{when, laid}
 use Rattle.law.specs.Sheet.{PduType, enhanced, short, Sheet, GoodLength, allows as most}
 use Rattle.law.specs.State.{link, failures}
 use Rattle.law.specs.Table.{table_of}
-use Rattle.law.specs.Exchange.{Fate, code, wdt, judged, lost as lostCycle, tolerated as toleratedCycle, passing, fate_of}
+use Rattle.law.specs.Exchange.{Fate, code, wdt, judged, lost as lost_cycle, tolerated as tolerated_cycle, passing, fate_of}
 use Rattle.link.specs.Steps.{follows_of, lost, tolerated}
 use Rattle.link.specs.Stored.{octets_of}
 use Rattle.link.specs.declared.state.LinkState.{LinkState}
@@ -75,7 +75,7 @@ module _ (h : Sheet) (sheet : List ℕ) (st : LinkState) (m c : List ℕ) (facts
 
   -- check 1, where it fails
   missed_same : (b : Bool) → (b ≡ true → st.watch.failures < 255) → eqb (link s) 3 ≡ true
-      → Alike (comes_to 0 Whole Quiet (pick b (tolerated st mn) (lost st))) (when b (toleratedCycle s) lostCycle)
+      → Alike (comes_to 0 Whole Quiet (pick b (tolerated st mn) (lost st))) (when b (tolerated_cycle s) lost_cycle)
   unfolding pick when laid
   missed_same true few three =
       record { alarm = refl; place = whole_at.told; next = goes_tolerated mn st facts on three (few refl); body = λ k old. quiet_at sheet m c k old form; memory = quiet_keeps form c m ∙ unmoved h.pdu h sheet st m c facts on world good asked (wdt_same h.pdu (code c) c) }
@@ -86,7 +86,7 @@ module _ (h : Sheet) (sheet : List ℕ) (st : LinkState) (m c : List ℕ) (facts
   lost_or : (b : Bool) {y : Judgement} {f : Fate} → (b ≡ true → eqb (link s) 3 ≡ true)
       → J h.pdu h sheet st m c facts on world good asked (wdt_same h.pdu (code c) c) y f
       → Alike (pick b (comes_to 0 Whole Quiet (missed_of (most h) st mn)) (finished st (named form (code c) c) y))
-      (when b (when (ltb (failures s) (most h)) (toleratedCycle s) lostCycle) (passing f))
+      (when b (when (ltb (failures s) (most h)) (tolerated_cycle s) lost_cycle) (passing f))
   unfolding pick when missed_of octets_of
   lost_or true g k =
       missed_same (ltb st.watch.failures (most h))

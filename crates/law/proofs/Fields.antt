@@ -12,7 +12,7 @@ use Rattle.octets.specs.Numbers.{le2_at, le4_at}
 use Rattle.octets.proofs.Cases.{lt_or_le, eq_or_ne}
 use Rattle.law.specs.Words.{number_at, one_of, bit}
 use Rattle.law.specs.Sheet.{Parameter as Param}
-use Rattle.law.specs.Table.{com_mod, parameter_of as paramOf, element}
+use Rattle.law.specs.Table.{com_mod, parameter_of as param_of, element}
 use Rattle.machine.specs.Connecting.{com_mod_fits, com_time_fits}
 use Rattle.machine.specs.Judging.{element_of}
 use Rattle.octets.proofs.Pick.{pick_yes, pick_no, pick_eq, pick_ne, pick_differ, pick_same}
@@ -89,8 +89,8 @@ com_time_lem x t three =
 
 -- the parameter of a number
 pub param_found : (ps : List Param) (n : ℕ) → one_of n (map (λ (p : Param). p.number) ps) ≡ true
-    → sought_parameter (map as_parameter ps) n ≡ SoughtParameter.Found (as_parameter (paramOf ps n))
-unfolding sought paramOf
+    → sought_parameter (map as_parameter ps) n ≡ SoughtParameter.Found (as_parameter (param_of ps n))
+unfolding sought param_of
 param_found [] n e = absurd (let z : ◌≡◌ {A = ℕ} 0 1 = cc in let v : ⊥ = omega arith in v)
 param_found (p ∷ ps) n e =
     ⊎_elim (λ (q : p.number ≡ n). pick_eq _ _ q ∙ ap (λ (x : Param). SoughtParameter.Found (as_parameter x)) (sym (when_yes _ _ (eq-eqb p.number n q))))

@@ -20,7 +20,7 @@ use Rattle.frame.proofs.Rooms.{sized, parameter_room}
 use Rattle.law.specs.Words.{when, Piece, piece, laid}
 use Rattle.law.specs.Sheet.{PduType, enhanced, short, Sheet, GoodLength, allows}
 use Rattle.law.specs.Memory.{cells, stored, held, has_all, mapped}
-use Rattle.law.specs.Table.{Check, check, rights_check, Run, Row, row, parameter_checks as paramChecks, parameter_rights, item_checks, item_part, connect_checks, number, parameter as param, item as ident}
+use Rattle.law.specs.Table.{Check, check, rights_check, Run, Row, row, parameter_checks as param_checks, parameter_rights, item_checks, item_part, connect_checks, number, parameter as param, item as ident}
 use Rattle.law.specs.Exchange.{Fate, fate, code, wdt, refused, checked, passing}
 use Rattle.link.specs.Steps.{latched, cleared, connected}
 use Rattle.link.specs.Stored.{octets_of}
@@ -197,7 +197,7 @@ module _ (pdu : PduType) (h : Sheet) (sheet : List ℕ) (st : LinkState) (m c : 
       -- 01 PRM_RD, 02 PRM_WR
       pub param_row : (most : ℕ) → most ≡ h.l - 8 → (echo : Piece) (from : ℕ) → Lays Parameter echo from
           → (writes : Bool) (right : ℕ → Bool) → ((y : ℕ) → right y ≡ gives_of y (right_of writes st.link))
-          → J (parameter_of writes sheet lay st (named form code c)) (checked s (paramChecks h s m c most ++ parameter_rights h s m c right)
+          → J (parameter_of writes sheet lay st (named form code c)) (checked s (param_checks h s m c most ++ parameter_rights h s m c right)
           (row x ns vs ks [] (echo ∷ data_piece writes from (cells h.regions) m c (param h s m c).address (param h s m c).size ∷ [])
           (written writes from c (param h s m c).address (param h s m c).size)))
       unfolding parameter_of parameter_data checked

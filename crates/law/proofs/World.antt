@@ -8,7 +8,7 @@ use Rattle.octets.specs.Parts.{part, put_at}
 use Rattle.law.specs.Words.{one_of, Piece, piece}
 use Rattle.law.specs.Sheet.{Item as Ident, Sheet, allows}
 use Rattle.law.specs.Memory.{Cell, cells, stored, held, has_all, mapped}
-use Rattle.law.specs.Table.{Row, row, item_of as identOf}
+use Rattle.law.specs.Table.{Row, row, item_of as ident_of}
 use Rattle.regions.specs.Region.{regions_of, gives_of}
 use Rattle.regions.specs.Search.{span_place}
 use Rattle.regions.specs.declared.Right.TheVariants.{Mapped}
@@ -41,9 +41,9 @@ written true from c a n = piece a (take n (drop from c)) ∷ []
 
 pub record ItemSame (is : List Item) (ids : List Ident) (sheet : List ℕ) (n : ℕ) : Type 0 where
   pub at : ℕ
-  pub found : one_of n (map (λ (i : Ident). i.code) ids) ≡ true → sought_item is n ≡ SoughtItem.Found (record { code = n; length = (identOf ids n).length; at = at })
+  pub found : one_of n (map (λ (i : Ident). i.code) ids) ≡ true → sought_item is n ≡ SoughtItem.Found (record { code = n; length = (ident_of ids n).length; at = at })
   pub missing : one_of n (map (λ (i : Ident). i.code) ids) ≡ false → sought_item is n ≡ SoughtItem.Missing
-  pub own : one_of n (map (λ (i : Ident). i.code) ids) ≡ true → (o k : ℕ) → o + k ≤ (identOf ids n).length → part sheet (at + o) k ≡ take k (drop o (identOf ids n).octets)
+  pub own : one_of n (map (λ (i : Ident). i.code) ids) ≡ true → (o k : ℕ) → o + k ≤ (ident_of ids n).length → part sheet (at + o) k ≡ take k (drop o (ident_of ids n).octets)
 
 pub record World (h : Sheet) (sheet m : List ℕ) : Type 0 where
   pub regions : regions_of sheet (length h.regions) ≡ map as_region h.regions

@@ -15,7 +15,7 @@ use Rattle.octets.proofs.Pick.{pick_eq, pick_ne}
 use Rattle.law.specs.Words.{Every, joined, one_of}
 use Rattle.law.specs.Sheet.{Item as Ident, Sheet, GoodItem, WellFormed, FiveLengths, room, sheet_octets, parameter_octets, item_octets, tolerance_octets, release_octets}
 use Rattle.law.specs.Memory.{mapped}
-use Rattle.law.specs.Table.{item_of as identOf}
+use Rattle.law.specs.Table.{item_of as ident_of}
 use Rattle.law.proofs.Readings.{regions_listed}
 use Rattle.law.proofs.Exact.{read_back}
 use Rattle.law.proofs.Front.{read_sheet}
@@ -53,7 +53,7 @@ never e = absurd (let z : ◌≡◌ {A = ℕ} 0 1 = cc in let v : ⊥ = omega ar
 
 items_same : (s : List ℕ) (r p k m n : ℕ) → Every (λ (i : Ident). i.length ≤ 32) (listed (λ (k : ℕ). ident_from s (4 + 10 * r + 8 * p + 35 * k)) k m)
     → ItemSame (listed (item_at s r p) k m) (listed (λ (k : ℕ). ident_from s (4 + 10 * r + 8 * p + 35 * k)) k m) s n
-unfolding listed sought identOf item_from
+unfolding listed sought ident_of item_from
 items_same s r p k zero n g = record { at = 0; found = λ e. never (sym e); missing = λ e. refl; own = λ e. never (sym e) }
 items_same s r p k (suc m) n g =
     let b = 4 + 10 * r + 8 * p + 35 * k in
@@ -61,19 +61,19 @@ items_same s r p k (suc m) n g =
     let xs = listed (λ (k : ℕ). ident_from s (4 + 10 * r + 8 * p + 35 * k)) (suc k) m in
     let rest = one_of n (map (λ (i : Ident). i.code) xs) in
     ⊎_elim (λ (q : get_or s (b + 1) 0 ≡ n).
-    let is : identOf (x ∷ xs) n ≡ x = when_yes _ _ (eq-eqb (get_or s (b + 1) 0) n q) in
+    let is : ident_of (x ∷ xs) n ≡ x = when_yes _ _ (eq-eqb (get_or s (b + 1) 0) n q) in
     record {
       at = b + 3;
       found = λ e. pick_eq _ _ q ∙ (λ i. SoughtItem.Found (record { code = q i; length = (sym is i).length; at = b + 3 }));
       missing = λ e. never (sym (ap (λ (t : Bool). t || rest) (eq-eqb n (get_or s (b + 1) 0) (sym q))) ∙ e);
       own = λ e o k l.
-          let w : (identOf (x ∷ xs) n).length ≡ x.length = ap (λ (i : Ident). i.length) is in
+          let w : (ident_of (x ∷ xs) n).length ≡ x.length = ap (λ (i : Ident). i.length) is in
           let v = g.0 in
           own_octets s (b + 3) o k (omega arith) ∙ ap (λ (i : Ident). take k (drop o i.octets)) (sym is);
     })
     (λ (q : get_or s (b + 1) 0 ≡ n → ⊥).
     let t = items_same s r p (suc k) m n g.1 in
-    let is : identOf (x ∷ xs) n ≡ identOf xs n = when_no _ _ (ne_eqb (get_or s (b + 1) 0) n q) in
+    let is : ident_of (x ∷ xs) n ≡ ident_of xs n = when_no _ _ (ne_eqb (get_or s (b + 1) 0) n q) in
     let off : eqb n (get_or s (b + 1) 0) || rest ≡ rest = ap (λ (t : Bool). t || rest) (ne_eqb n (get_or s (b + 1) 0) (λ z. q (sym z))) in
     record {
       at = t.at;

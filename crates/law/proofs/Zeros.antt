@@ -13,7 +13,7 @@ use lib.ListN.{length}
 use Rattle.octets.specs.Pick.{pick}
 use Rattle.octets.proofs.Cases.{eq_or_ne}
 use Rattle.octets.proofs.Pick.{pick_yes, pick_no, pick_ne}
-use Rattle.frame.specs.Unnamed.{names_of, is_named as isNamedThere, unnamed_bits as bitsThere, stray_from as strayThere, stray_as}
+use Rattle.frame.specs.Unnamed.{names_of, is_named as is_named_there, unnamed_bits as bits_there, stray_from as stray_there, stray_as}
 use Rattle.frame.specs.declared.unnamed.Run.{Run as Stretch}
 use Rattle.frame.proofs.Named.{named, stray_at}
 use Rattle.frame.proofs.Strays.{stray_none, stray_one, bits_enhanced, bits_short, stray_as_lem}
@@ -35,12 +35,12 @@ use Rattle.law.proofs.Layouts.{form_for, release_for, release_two}
 use Rattle.law.proofs.Rows.{J, via, refusing}
 use Rattle.law.proofs.World.{World}
 
-bits_same : (pdu : PduType) (k x : ℕ) → bitsThere (form_for pdu) k x ≡ unnamed_bits pdu k x
+bits_same : (pdu : PduType) (k x : ℕ) → bits_there (form_for pdu) k x ≡ unnamed_bits pdu k x
 bits_same enhanced k x = bits_enhanced k x ∙ picked (eqb k 2) (x % 64) x
 bits_same short k x = bits_short k x
 
-module _ (pdu : PduType) (there : List Stretch) (here : List Run) (same : (i : ℕ) → isNamedThere there i ≡ is_named here i) where
-  from_same : (k : ℕ) (xs : List ℕ) → strayThere (form_for pdu) there k xs ≡ stray_from pdu here k xs
+module _ (pdu : PduType) (there : List Stretch) (here : List Run) (same : (i : ℕ) → is_named_there there i ≡ is_named here i) where
+  from_same : (k : ℕ) (xs : List ℕ) → stray_there (form_for pdu) there k xs ≡ stray_from pdu here k xs
   unfolding stray_from
   from_same k [] = stray_none (form_for pdu) there k
   from_same k (x ∷ xs) =
@@ -49,7 +49,7 @@ module _ (pdu : PduType) (there : List Stretch) (here : List Run) (same : (i : �
       ∙ picked (is_named here k || eqb (unnamed_bits pdu k x) 0) (stray_from pdu here (suc k) xs) k
 
 pub stray_same : (pdu : PduType) (h : Sheet) (s m c : List ℕ) (n : ℕ) (here : List Run)
-    → ((i : ℕ) → isNamedThere (names_of (form_for pdu) n c) i ≡ is_named (head_named pdu ++ here) i)
+    → ((i : ℕ) → is_named_there (names_of (form_for pdu) n c) i ≡ is_named (head_named pdu ++ here) i)
     → stray_as (form_for pdu) (release_for h) n c ≡ stray_in h s m c pdu here
 stray_same pdu h s m c n here same =
     stray_as_lem (form_for pdu) (release_for h) n c

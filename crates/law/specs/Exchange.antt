@@ -76,10 +76,10 @@ fate_of h s m c = when (missed h s c) (failing h s) (passing (judged s (code c) 
 -- "An exchange that begins and ends in link 3 stores MN as known and adds 1 to RSN modulo 16, refused or not. .. On entry to link 3 MN is not known and
 -- RSN is 0; on leaving it those fields and dual become 0", and so does the count. `sent` is the command's MN
 unfoldable pub watched : ℕ → ℕ → List ℕ → ℕ → List Piece
-watched linkBefore linkAfter s sent =
-    when (eqb linkBefore 3)
-    (when (eqb linkAfter 3) (piece 5 (1 ∷ sent ∷ (rsn s + 1) % 16 ∷ []) ∷ []) (piece 3 (0 ∷ []) ∷ piece 5 (0 ∷ 0 ∷ 0 ∷ []) ∷ piece 10 (0 ∷ []) ∷ []))
-    (when (eqb linkAfter 3) (piece 5 (0 ∷ 0 ∷ 0 ∷ []) ∷ []) [])
+watched link_before link_after s sent =
+    when (eqb link_before 3)
+    (when (eqb link_after 3) (piece 5 (1 ∷ sent ∷ (rsn s + 1) % 16 ∷ []) ∷ []) (piece 3 (0 ∷ []) ∷ piece 5 (0 ∷ 0 ∷ 0 ∷ []) ∷ piece 10 (0 ∷ []) ∷ []))
+    (when (eqb link_after 3) (piece 5 (0 ∷ 0 ∷ 0 ∷ []) ∷ []) [])
 
 -- the state record afterwards
 unfoldable pub state_after : List ℕ → ℕ → List Piece → List ℕ

@@ -1,6 +1,6 @@
 -- What the calls of type24/src/lib.rt promise. Each promise is one equation, between what a host has after the call and what it lent; and it is the
 -- whole contract of the function that is called (`Promises`), which asks nothing but what its parameters' types ask: buffers that are there, each that may be
--- written distinct from all others.
+-- written distinct from all others. The archive is made of type24_c, whose calls have the same contracts by its own theorem, `Exports`.
 use Rattle.std.specs.Prelude.{ℕ, List, ◌≡◌}
 use seplogic.Ra.Ura.{Ura}
 use base.Logic.{SProp, emp}

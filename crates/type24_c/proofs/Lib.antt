@@ -1,0 +1,2 @@
+-- That they promise it.
+pub mod Exports

@@ -1,0 +1,2 @@
+-- What the calls of the archive promise.
+pub mod Exports
