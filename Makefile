@@ -3,14 +3,16 @@
 
 # The bench program of document 01: proved, run on sheet P and two commands, compared with crates/bench/stdout, and shown.
 run:
-	@tools/prove check bench
+	@tools/prove bench
+	@cd crates/bench/data && ../../../target/bin/bench <../stdin >../../../target/log/bench.stdout
+	@cmp target/log/bench.stdout crates/bench/stdout
 	@cat target/log/bench.stdout
 
 # The gate: everything is proved, refused and run from nothing.
 test:
 	.ci/run
 
-# The header kit, in dist/: the product for x86-64, and what runs at hand. For another processor beside: make kit T24_MACHINE=aarch64
+# The header kit, in dist/: the product for x86-64. For aarch64 beside: make kit T24_MACHINE=aarch64
 kit:
 	@kit/make-dist dist
 

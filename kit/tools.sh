@@ -76,6 +76,8 @@ use_tools_of() {
     else
         OTHER_CC=$1-linux-gnu-gcc OTHER_NM=$1-linux-gnu-nm
         OTHER_RUN="qemu-$1 -L /usr/$1-linux-gnu -E LD_LIBRARY_PATH=/usr/$1-linux-gnu/lib"
-        PACKAGES="gcc-$1-linux-gnu qemu-user"
+        libc=$1
+        [ "$1" != aarch64 ] || libc=arm64 # Debian's name
+        PACKAGES="gcc-$1-linux-gnu libc6-dev-$libc-cross qemu-user"
     fi
 }

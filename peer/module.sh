@@ -1,101 +1,83 @@
-# Sourced by native, programs and sanitized, with the repository in $root: the LLVM modules that rt compiles into the product, and what is made from
-# them for the processor at hand or another, by the same compiler at the same level.
+# Sourced by native, programs and sanitized, with the repository in $root: what is made of the proved functions for another processor than the product's, and
+# the LLVM module that rattle compiles into the product.
 # shellcheck shell=sh disable=SC2154 # root is set where this is sourced
+
+# shellcheck source-path=SCRIPTDIR source=../tools/made.sh
+. "$root/tools/made.sh"
 
 host=$(uname -m)
 machine=${T24_MACHINE:-$host} # a processor that is not at hand can be asked for
 module=$root/target/module
 product=$root/target/staticlib/libtype24.a
-rattle=$(dirname "$(dirname "$(readlink -f "$(command -v rt)")")")
-tools=$rattle/on/$host/toolchain
+
+# need_target: the toolchain makes code for these two alone, and runs on the first alone.
+need_target() {
+    case $machine in
+    x86_64 | aarch64) ;;
+    *) echo "native: the proof kit, $(cat "$root/.ci/kit"), makes code for x86_64 and aarch64, and none for $machine" >&2; exit 1 ;;
+    esac
+    [ "$host" = x86_64 ] || { echo "native: there is a proof kit, $(cat "$root/.ci/kit"), for x86-64 alone; this is $host" >&2; exit 1; }
+}
 
 # made_for MACHINE: the folder for what is made for that processor.
 made_for() {
     if [ "$1" = "$host" ]; then echo "$root/target/native"; else echo "$root/target/native-$1"; fi
 }
 
-# as_new FILE: tells whether a file is there that was made from the crates as they are.
-as_new() {
-    [ -f "$1" ] && [ -z "$(find "$root/crates" "$root/crates.txt" -newer "$1" | head -n 1)" ]
+# made_over CRATE FILE WORD..: over_libraries of tools/made.sh; where libraries are missing, or are of several runs and do not fit each other, rt builds them first.
+made_over() {
+    over_libraries "$@" && return
+    verb=run
+    [ -f "$root/crates/$1/src/main.rt" ] || verb=lib
+    (cd "$root/crates/$1" && rt $verb </dev/null) >"$made_log" 2>&1 || : # a program's own status
+    over_libraries "$@" || { cat "$made_log" >&2; echo "native: $1 was not built" >&2; exit 1; }
 }
 
-# make_kit: a kit like the one at hand, whose compiler keeps the module that it is given.
-make_kit() {
-    like=$module/kit
-    rm -rf "$like"
-    mkdir -p "$like/bin" "$like/on/$host/toolchain/bin"
-    cp "$rattle/bin/rt" "$rattle/bin/rattle" "$like/bin/"
-    for part in "$rattle"/*; do
-        [ -e "$like/$(basename "$part")" ] || ln -s "$part" "$like/"
-    done
-    for part in "$rattle/on/$host"/*; do
-        [ -e "$like/on/$host/$(basename "$part")" ] || ln -s "$part" "$like/on/$host/"
-    done
-    for part in "$tools"/* "$tools"/bin/*; do
-        place=$like/on/$host/toolchain${part#"$tools"}
+# make_toolchain: a toolchain like the one at hand, whose compiler keeps the module that it is given, and the words that it is called with, a line each.
+make_toolchain() {
+    rm -rf "$module"
+    mkdir -p "$module/toolchain/bin"
+    for part in "$rattle_kit/toolchain"/* "$rattle_kit/toolchain/bin"/*; do
+        place=$module/toolchain${part#"$rattle_kit/toolchain"}
         [ -e "$place" ] || ln -s "$part" "$place"
     done
-    rm "$like/on/$host/toolchain/bin/clang"
-    cat >"$like/on/$host/toolchain/bin/clang" <<SCRIPT
+    rm "$module/toolchain/bin/clang"
+    cat >"$module/toolchain/bin/clang" <<SCRIPT
 #!/bin/sh
 for word in "\$@"; do
-    case \$word in *.bc) cp "\$word" "$module/module.bc" ;; esac
+    case \$word in *.bc) cp "\$word" "$module/module.bc" && printf '%s\n' "\$@" >"$module/words" ;; esac
 done
-exec "$tools/bin/clang" "\$@"
+exec "$rattle_kit/toolchain/bin/clang" "\$@"
 SCRIPT
-    chmod +x "$like/on/$host/toolchain/bin/clang"
+    chmod +x "$module/toolchain/bin/clang"
 }
 
-# keep_module NAME WORD...: the module that rt hands to its compiler with these words, as text in $module/NAME.ll. It names the product's processor in its
-# layout, its target and its functions' attributes, and in nothing else; there the text names none.
-keep_module() {
-    name=$1
-    shift
-    rm -f "$module/module.bc" "$module/$name.ll"
-    make_kit
-    RT="$module/kit/bin/rt" "$root/tools/prove" "$@"
-    [ -f "$module/module.bc" ] || { echo "native: rt $* compiled nothing" >&2; exit 1; }
-    "$tools/bin/clang" --target=x86_64-unknown-linux-gnu -x ir "$module/module.bc" -S -emit-llvm -O0 -Xclang -disable-llvm-passes -o "$module/whole.ll"
-    sed -e '/^target datalayout/d' -e '/^target triple/d' -e 's/ "target-cpu"="x86-64"//' "$module/whole.ll" >"$module/$name.ll"
-}
-
-# need_module: the archive's module in $module/module.ll, and the product beside it.
+# need_module: the module of the product as text in $module/module.ll, and the product beside it, which rattle makes of that module again.
 need_module() {
-    if [ -f "$product" ] && as_new "$module/module.ll"; then
+    "$root/tools/prove" archive
+    if as_new "$module/module.ll"; then
         return
     fi
-    keep_module module staticlib type24
+    make_toolchain
+    made_over type24_c "$module/libtype24.a" --toolchain "$module/toolchain"
+    [ -f "$module/module.bc" ] || { echo "native: rattle compiled nothing" >&2; exit 1; }
+    cmp "$module/libtype24.a" "$product" >&2 || { echo "native: the module is not that of ${product#"$root/"}" >&2; exit 1; }
+    "$rattle_kit/toolchain/bin/clang" --target=x86_64-unknown-linux-gnu -x ir "$module/module.bc" -S -emit-llvm -O0 -Xclang -disable-llvm-passes \
+        -o "$module/module.ll"
 }
 
-# need_program_module PROGRAM: that of a program in $module/PROGRAM.ll; rt compiles a program only if it has no stamp of its proof.
-need_program_module() {
-    if [ -f "$root/target/bin/$1" ] && as_new "$module/$1.ll"; then
-        return
-    fi
-    rm -f "$root/target/stamp/$1"
-    keep_module "$1" check "$1"
-}
-
-# compile TEXT OBJECT [FLAG...]: a module as text, for the processor that is asked for.
-compile() {
-    text=$1 object=$2
-    shift 2
-    "$tools/bin/clang" --target="$machine-unknown-linux-gnu" -Wno-override-module -ffunction-sections -fdata-sections -mllvm -trap-unreachable \
-        -mllvm -no-trap-after-noreturn -O3 "$@" -c -x ir "$text" -o "$object"
-}
-
-# must_give OURS FILE: what we make of a module for the product's own processor has to be what rt made, octet for octet, before anything is made of it
-# for another.
-must_give() {
-    cmp "$1" "$2" >&2 || { echo "native: the module, compiled by our script for x86-64, does not give $2" >&2; exit 1; }
-    echo "native: compiled by our script for x86-64, the module gives ${2#"$root/"}" >&2
-}
-
-# make_archive TEXT FOLDER [FLAG...]: FOLDER/libtype24.a, from a module as text.
-make_archive() {
+# make_archive TEXT FOLDER [FLAG...]: FOLDER/libtype24.a, from a module as text, by the compiler and the words that rattle took for the module of the product.
+make_archive() (
     text=$1 folder=$2
     shift 2
-    compile "$text" "$folder/type24.o" -fPIC "$@"
+    while IFS= read -r word; do
+        case $word in
+        *.bc) word=$text ;;
+        *.o) word=$folder/type24_c.o ;;
+        esac
+        set -- "$@" "$word"
+    done <"$module/words"
+    "$rattle_kit/toolchain/bin/clang" "$@"
     rm -f "$folder/libtype24.a"
-    "$tools/bin/llvm-ar" rcs "$folder/libtype24.a" "$folder/type24.o"
-}
+    "$rattle_kit/toolchain/bin/llvm-ar" rcs "$folder/libtype24.a" "$folder/type24_c.o"
+)

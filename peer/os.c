@@ -1,15 +1,12 @@
-/* What the programs ask of the kit's library os, for a processor for
- * which the kit has no C code of it: the contracts are those of its c.rt. */
-#define _GNU_SOURCE /* O_CLOEXEC, and glibc's arguments of a constructor */
+/* What the programs ask of the C code of the proof kit's library os, for a
+ * processor for which the kit has none: the contracts are those of its c.rt. */
+#define _GNU_SOURCE /* glibc's arguments of a constructor */
 #include <errno.h>
-#include <fcntl.h>
 #include <stddef.h>
 #include <stdint.h>
 
-int32_t rattle_open_to_read(const char *path);
 int32_t rattle_errno(void);
 void rattle_set_errno(int32_t error);
-size_t rattle_arg_count(void);
 ptrdiff_t rattle_arg(size_t i, uint8_t *buffer, size_t len);
 
 static size_t count;
@@ -22,11 +19,6 @@ __attribute__((constructor)) static void keep(int argc, char **argv)
     words = argv;
 }
 
-int32_t rattle_open_to_read(const char *path)
-{
-    return open(path, O_RDONLY | O_NOCTTY | O_CLOEXEC);
-}
-
 int32_t rattle_errno(void)
 {
     return errno;
@@ -35,11 +27,6 @@ int32_t rattle_errno(void)
 void rattle_set_errno(int32_t error)
 {
     errno = error;
-}
-
-size_t rattle_arg_count(void)
-{
-    return count;
 }
 
 /* The length of argument i, now in the buffer; -1 if there is none, -2 if it
