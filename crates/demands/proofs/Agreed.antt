@@ -21,7 +21,7 @@ all_agree : (sheet : List ℕ) (l : ℕ) {k : ℕ} {state memory : List ℕ} {ts
     → r.answer.number ≡ 0 → run_replies (run_of sheet state memory (calls_of ts)) ≡ trace_replies ts
 unfolding run_of call_of
 all_agree sheet l ended z = refl
-all_agree sheet l (differed w h) z = absurd (let k : ⊥ = omega arith in k)
+all_agree sheet l (differed w h) z = absurd (omega arith)
 all_agree sheet l (agreed e p) z = ap₂ (λ (x : List ℕ) (xs : List (List ℕ)). x ∷ xs) e (all_agree sheet l p z)
 
 -- and one whose replies are all the trace's went to the end
@@ -33,7 +33,7 @@ to_the_end sheet l (differed {state = state} {memory = memory} {t = t} w h) q =
     let e : (ours sheet state memory t).reply ≡ t.reply = cc in
     let d : differs_at (ours sheet state memory t).reply t.reply ≡ length t.reply =
     ap (λ (x : List ℕ). differs_at x t.reply) e ∙ differs_self t.reply in
-    absurd (let z : ⊥ = omega arith in z)
+    absurd (omega arith)
 to_the_end sheet l (agreed {k = k} {state = state} {memory = memory} {t = t} {ts = ts} e p) q =
     let tail : run_replies (run_of sheet (ours sheet state memory t).state (ours sheet state memory t).memory (calls_of ts)) ≡ trace_replies ts = cc in
     let n : suc k + length ts ≡ k + suc (length ts) = omega arith in

@@ -6,10 +6,10 @@ use mathlib.Core.List.{List, [], ◌∷◌, ◌++◌, map}
 use mathlib.Core.Logic.{inl, inr, ⊎_elim}
 use mathlib.Core.Path.{◌≡◌, refl, sym, ap, ap₂, subst, ◌∙◌}
 use Prim.Native.Nat.{ℕ, suc, ◌<◌}
-use native.Mathlib.Omega.{arith}
 use borrow.Author.Tests.{eq-eqb, ne_eqb, eqb-true}
 use lib.Dec.{eqb}
 use lib.ListN.{length, take, drop}
+use Rattle.std.proofs.lemmas.Bool.{false≢true, and_parts}
 use Rattle.octets.proofs.Cases.{decided, eq_or_ne}
 use Rattle.law.specs.Words.{when, Every, Some, one_of}
 use Rattle.law.specs.Sheet.{PduType, enhanced, short, Sheet, sheet_octets}
@@ -35,13 +35,6 @@ use Rattle.demands.proofs.Stray.{zero_stray, first_stray}
 pub named_octets : NamedOctets
 named_octets h s m c = by_type h s m c (λ t rs. map (λ (r : Row). r.code ∷ octets_in r.named) rs ≡ named_by h s m c t) refl refl h.pdu
 
-never : {A : Type 0} → ◌≡◌ {A = Bool} false true → A
-never e = absurd (let z : ◌≡◌ {A = ℕ} 0 1 = cc in let v : ⊥ = omega arith in v)
-
-both : (a b : Bool) → a && b ≡ true → (a ≡ true) × (b ≡ true)
-both true b e = (refl, e)
-both false b e = never e
-
 -- every check of a list is one of a link or of data
 abbrev early : List Check → Bool
 early [] = true
@@ -50,16 +43,16 @@ early (k ∷ ks) = one_of k.alarm (9 ∷ 12 ∷ []) && early ks
 nines_early : (ks : List Check) → alarmed 9 ks ≡ true → early ks ≡ true
 nines_early [] e = refl
 nines_early (k ∷ ks) e =
-    let p = both (eqb k.alarm 9) (alarmed 9 ks) e in
+    let p = and_parts (eqb k.alarm 9) (alarmed 9 ks) e in
     ap₂ ◌&&◌ (ap (λ (n : ℕ). one_of n (9 ∷ 12 ∷ [])) (eqb-true k.alarm 9 p.0)) (nines_early ks p.1)
 
 -- an alarm of a list without 0 and 10 is neither
 not_late : (alarms : List ℕ) → one_of 0 alarms ≡ false → one_of 10 alarms ≡ false → (a : ℕ) → one_of a alarms ≡ true → one_of a (0 ∷ 10 ∷ []) ≡ true → ⊥
 not_late alarms none ten a e f =
-    ⊎_elim (λ (z : a ≡ 0). never (sym none ∙ sym (ap (λ (n : ℕ). one_of n alarms) z) ∙ e))
+    ⊎_elim (λ (z : a ≡ 0). false≢true (sym none ∙ sym (ap (λ (n : ℕ). one_of n alarms) z) ∙ e))
     (λ (z : a ≡ 0 → ⊥).
-    ⊎_elim (λ (y : a ≡ 10). never (sym ten ∙ sym (ap (λ (n : ℕ). one_of n alarms) y) ∙ e))
-    (λ (y : a ≡ 10 → ⊥). never (sym (ap₂ (λ (p q : Bool). p || (q || false)) (ne_eqb a 0 z) (ne_eqb a 10 y)) ∙ f))
+    ⊎_elim (λ (y : a ≡ 10). false≢true (sym ten ∙ sym (ap (λ (n : ℕ). one_of n alarms) y) ∙ e))
+    (λ (y : a ≡ 10 → ⊥). false≢true (sym (ap₂ (λ (p q : Bool). p || (q || false)) (ne_eqb a 0 z) (ne_eqb a 10 y)) ∙ f))
     (eq_or_ne a 10))
     (eq_or_ne a 0)
 
@@ -73,7 +66,7 @@ module _ (s : List ℕ) where
   unfolding checked
   late [] r e = refl
   late (k ∷ ks) r e =
-      let p = both (eqb k.alarm 10) (alarmed 10 ks) e in
+      let p = and_parts (eqb k.alarm 10) (alarmed 10 ks) e in
       ⊎_elim
       (λ (t : k.holds ≡ true). ap (λ (f : Fate). one_of f.alarm (0 ∷ 10 ∷ [])) (when_yes _ _ t) ∙ late ks r p.1)
       (λ (t : k.holds ≡ false). ap (λ (n : ℕ). one_of n (0 ∷ 10 ∷ [])) (refused_alarm k.holds _ k.alarm k.place t ∙ eqb-true k.alarm 10 p.0))
@@ -99,7 +92,7 @@ module _ (s : List ℕ) where
     unfolding checked
     gives [] e some a = when_no _ _ (ne_eqb y 0 some)
     gives (k ∷ ks) e some a =
-        let p = both (one_of k.alarm (9 ∷ 12 ∷ [])) (early ks) e in
+        let p = and_parts (one_of k.alarm (9 ∷ 12 ∷ [])) (early ks) e in
         ⊎_elim
         (λ (t : k.holds ≡ true). when_yes _ _ t ∙ gives ks p.1 some (sym (ap (λ (f : Fate). one_of f.alarm (0 ∷ 10 ∷ [])) (when_yes _ _ t)) ∙ a))
         (λ (t : k.holds ≡ false).

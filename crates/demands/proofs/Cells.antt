@@ -9,6 +9,7 @@ use Prim.Native.Nat.{ℕ, zero, suc, ◌+◌, ◌≤◌}
 use native.Mathlib.Omega.{arith}
 use lib.Dec.{eqb}
 use lib.ListN.{drop, get_or}
+use Rattle.std.proofs.lemmas.Bool.{and_parts}
 use Rattle.law.specs.Words.{when, bit, Piece, laid}
 use Rattle.law.specs.Sheet.{Region, room}
 use Rattle.law.specs.Memory.{Cell, cells_from, cells, mapped, readable, writable, has, has_all, held_at, held, stored}
@@ -69,16 +70,12 @@ has_grant right asks (x ∷ xs) (y ∷ ys) g a e =
     by true f k e = f e
     by false f k e = k e
 
-both : (a b : Bool) → a && b ≡ true → (a ≡ true) × (b ≡ true)
-both true b e = (refl, e)
-both false b e = absurd (let z : ◌≡◌ {A = ℕ} 0 1 = cc in let v : ⊥ = omega arith in v)
-
 module _ (xs ys : List Cell) (g : Granting xs ys) where
   pub all_grant : (right : ℕ → Bool) → Asks right → (a n : ℕ) → has_all right xs a n ≡ true → has_all right ys a n ≡ true
   unfolding has_all
   all_grant right asks a zero e = refl
   all_grant right asks a (suc n) e =
-      let p = both (has right xs a) (has_all right xs (suc a) n) e in
+      let p = and_parts (has right xs a) (has_all right xs (suc a) n) e in
       ap₂ ◌&&◌ (has_grant right asks xs ys g a p.0) (all_grant right asks (suc a) n p.1)
 
 has_mapped : (xs ys : List Cell) → Granting xs ys → (a : ℕ) → has mapped xs a ≡ has mapped ys a

@@ -87,7 +87,7 @@ unchanged_is_not_listed a b v w list l e i j c m kind key =
 -- a test that holds exactly where two fields differ
 other_exactly : (t : Bool) (xs ys : List ℕ) → t ≡ not (same xs ys) → (t ≡ true) ↔ (xs ≡ ys → ⊥)
 other_exactly t xs ys e = (
-  λ h q. let f : t ≡ false = e ∙ ap not (ap (same xs) (sym q) ∙ same_self xs) in let z : ◌≡◌ {A = ℕ} 0 1 = cc in omega arith,
+  λ h q. let f : t ≡ false = e ∙ ap not (ap (same xs) (sym q) ∙ same_self xs) in cc,
   λ n. ⊎_elim (λ h. absurd (n (same_yes xs ys h))) (λ h. e ∙ ap not h) (decided (same xs ys)),
 )
 

@@ -6,15 +6,15 @@ use Prim.Native.Nat.{ℕ, ◌+◌, ◌-◌, ◌≤◌, ◌<◌}
 use native.Mathlib.Omega.{arith}
 use lib.ListN.{length, get_or, drop, length-append, length-drop, get_or-append}
 use lib.Seq.{get_or-append-add, get_or-drop}
+use Rattle.std.specs.Prelude.{Ok}
 use Rattle.octets.proofs.Cases.{lt_or_le}
 use Rattle.octets.proofs.Pick.{pick_lt, pick_ge, pick_both}
 use Rattle.difference.specs.Difference.{Listed, listed, second_answer, entered_of, difference_of}
 use Rattle.sheet.specs.Faults.{number_of}
+use Rattle.sheet.specs.Told.{Verdict, faulty}
 use Rattle.sheet.specs.Walk.{verdict_of}
 use Rattle.sheet.specs.declared.records.Fault.{Fault}
 use Rattle.sheet.specs.declared.walk.Layout.{Layout}
-use Rattle.sheet.specs.declared.walk.Verdict.{Verdict}
-use Rattle.sheet.specs.declared.walk.Verdict.TheVariants.{Valid, Faulty}
 use Rattle.slave.specs.Answers.{told, sheet_answer}
 use Rattle.slave.proofs.Order.{on_faulty, on_valid}
 use Rattle.law.specs.Sheet.{Sheet, WellFormed, sheet_octets}
@@ -37,7 +37,7 @@ module _ (octets lent : List ℕ) where
 
   short_exactly : (entered_of octets lent).answer.number ≡ 28 → length lent < length octets
   short_exactly e =
-      ⊎_elim (λ h. h) (λ h. let z = sym (ap (λ (l : Listed). l.answer.number) (long_enough h)) ∙ e in absurd (let w : ⊥ = omega arith in w))
+      ⊎_elim (λ h. h) (λ h. let z = sym (ap (λ (l : Listed). l.answer.number) (long_enough h)) ∙ e in absurd (omega arith))
       (lt_or_le (length lent) (length octets))
 
   length_told : (entered_of octets lent).answer.place ≡ length octets
@@ -100,12 +100,12 @@ refused_writes_nothing first second lent =
 
 -- a sheet at fault: the fault and its place, ten higher where the first is good
 module _ (first second lent : List ℕ) (f : Fault) (place : ℕ) where
-  first_refused : verdict_of first ≡ Faulty f place → difference_of first second lent ≡ listed (told (number_of f) place) lent
+  first_refused : verdict_of first ≡ faulty f place → difference_of first second lent ≡ listed (told (number_of f) place) lent
   unfolding difference_of sheet_answer
   first_refused e =
       on_faulty _ f place _ _ e ∙ ap (λ (v : Verdict). listed (sheet_answer v) lent) e
 
-  second_refused : (u : Layout) → verdict_of first ≡ Valid u → verdict_of second ≡ Faulty f place
+  second_refused : (u : Layout) → verdict_of first ≡ Ok u → verdict_of second ≡ faulty f place
       → difference_of first second lent ≡ listed (told (number_of f + 10) place) lent
   unfolding difference_of sheet_answer
   second_refused u p e =

@@ -8,6 +8,7 @@ use lib.ListN.{length}
 use Rattle.law.specs.Words.{when, Every, in_octets}
 use Rattle.law.specs.Sheet.{IsOctet}
 use Rattle.law.specs.Difference.{Entry, Change, gone, new, changed, same, bits_from, bits_of, entries_of, key_length, body_of, written_of, change_octets, In, Differs}
+use Rattle.law.proofs.Exact.{octets_behind}
 use Rattle.law.proofs.Merge.{Shaped}
 use Rattle.law.proofs.Octets.{all as all_octets, in_octets_lem}
 use Rattle.law.proofs.OneList.{every_in}
@@ -22,14 +23,10 @@ first_part : (xs ys : List ℕ) → Every IsOctet (xs ++ ys) → Every IsOctet x
 first_part [] ys o = tt
 first_part (x ∷ xs) ys o = (o.0, first_part xs ys o.1)
 
-second_part : (xs ys : List ℕ) → Every IsOctet (xs ++ ys) → Every IsOctet ys
-second_part [] ys o = o
-second_part (x ∷ xs) ys o = second_part xs ys o.1
-
 bodies : (es : List Entry) → Every IsOctet (written_of es) → Every (λ (e : Entry). Every IsOctet (body_of e)) es
 unfolding written_of
 bodies [] o = tt
-bodies (e ∷ es) o = (first_part (body_of e) (written_of es) o.1, bodies es (second_part (body_of e) (written_of es) o.1))
+bodies (e ∷ es) o = (first_part (body_of e) (written_of es) o.1, bodies es (octets_behind (body_of e) (written_of es) o.1))
 
 key_octets : (k n : ℕ) → Every IsOctet (in_octets k n)
 key_octets zero n = tt
@@ -53,7 +50,7 @@ bits_below : (b n : ℕ) (xs ys : List (List ℕ)) → length xs ≤ n → bits_
 unfolding bits_from
 bits_below b n [] ys l = let h = next_above b n in omega arith
 bits_below b n (x ∷ xs) [] l = let h = next_above b n in omega arith
-bits_below b zero (x ∷ xs) (y ∷ ys) l = absurd (let w : ⊥ = omega arith in w)
+bits_below b zero (x ∷ xs) (y ∷ ys) l = absurd (omega arith)
 bits_below b (suc n) (x ∷ xs) (y ∷ ys) l =
     let h = bits_below (b + b) n xs ys (omega arith) in
     let t = one_bit (same x y) b in

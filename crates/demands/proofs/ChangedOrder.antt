@@ -19,14 +19,14 @@ use Rattle.demands.specs.Changed.{kind_of, key_of, IsGone, IsNew, Precedes, Once
 
 -- what stands in a list, by its place
 at_in : {A : Type 0} (d : A) (l : List A) (i : ℕ) → i < length l → In (get_or l i d) l
-at_in d [] i h = absurd (let w : ⊥ = omega arith in w)
+at_in d [] i h = absurd (omega arith)
 at_in d (x ∷ l) zero h = inl refl
 at_in d (x ∷ l) (suc i) h = inr (at_in d l i (omega arith))
 
 -- of a list that rises by a number, what stands further on is above
 further : {A : Type 0} (f : A → ℕ) (d : A) (l : List A) → InARow (Up f) l → (i j : ℕ) → i < j → j < length l → f (get_or l i d) < f (get_or l j d)
-further f d [] p i j h b = absurd (let w : ⊥ = omega arith in w)
-further f d (x ∷ l) p i zero h b = absurd (let w : ⊥ = omega arith in w)
+further f d [] p i j h b = absurd (omega arith)
+further f d (x ∷ l) p i zero h b = absurd (omega arith)
 further f d (x ∷ l) p zero (suc j) h b =
     every_in (λ y. f x < f y) (get_or l j d) l (all_above f (f x) x l (le_refl (f x)) p) (at_in d l j (omega arith))
 further f d (x ∷ l) p (suc i) (suc j) h b = further f d l (from_row f x l p) i j (omega arith) (omega arith)
@@ -68,10 +68,10 @@ module _ (a b : List Entry) (r : Rising b) where
   gone_new : (c d : Change) → Differs a b c → Differs a b d → order_of_kind (kind_of c) ≡ order_of_kind (kind_of d) → key_of c ≡ key_of d → late c < late d
       → IsGone c × IsNew d
   unfolding Differs rank
-  gone_new c (gone k n) p q o key l = absurd (let w : ⊥ = omega arith in w)
-  gone_new c (changed m y) p q o key l = absurd (let w : ⊥ = omega arith in w)
+  gone_new c (gone k n) p q o key l = absurd (omega arith)
+  gone_new c (changed m y) p q o key l = absurd (omega arith)
   gone_new (gone k n) (new y) p q o key l = (tt, tt)
-  gone_new (new x) (new y) p q o key l = absurd (let w : ⊥ = omega arith in w)
+  gone_new (new x) (new y) p q o key l = absurd (omega arith)
   gone_new (changed n x) (new y) (i, (z, t, kind, k, u, e)) (j, h) o key l =
       let s = one_at rank_of x y b r i j (ap₂ (λ (m k : ℕ). 4294967296 * m + k) o key) in
       absurd (h (has_in y.kind y.key z a

@@ -100,7 +100,7 @@ module _ (h : Sheet) (sheet s m c r : List ℕ) (a : Answered h sheet s m c r) w
 
   pub tolerated_shown : missed h s c ≡ true → ltb (failures s) (allows h) ≡ true → tolerated_in x.reply ≡ true
   tolerated_shown e l =
-      told_by_count ∙ ap not (ap (λ (n : ℕ). eqb n 0) (tolerated_count e l) ∙ ne_eqb (failures s + 1) 0 (λ z. let w : ⊥ = omega arith in w))
+      told_by_count ∙ ap not (ap (λ (n : ℕ). eqb n 0) (tolerated_count e l) ∙ ne_eqb (failures s + 1) 0 (λ z. omega arith))
 
   -- leaving link 3 sets it to 0
   lost_away : link (over lost.changes s) ≡ 2

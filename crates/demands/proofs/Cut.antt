@@ -7,6 +7,7 @@ use native.Mathlib.Nat.{suc-mul, suc-add, mul-div_cancel, add-mul-div_right}
 use native.Mathlib.Omega.{arith}
 use lib.ListN.{length, take, drop, length-append, length-drop}
 use lib.Seq.{take-append-le, drop-append-le}
+use Rattle.std.proofs.lemmas.List.{nil_from_length}
 use Rattle.octets.specs.Parts.{part}
 use Rattle.octets.specs.Pick.{pick}
 use Rattle.octets.proofs.Pick.{pick_yes, pick_no}
@@ -43,15 +44,11 @@ part_front t u at n h =
     let d = length-drop at t in
     ap (take n) (drop-append-le at t u (omega arith)) ∙ take-append-le n (drop at t) u (omega arith)
 
-no_octets : (t : List ℕ) → length t ≡ 0 → t ≡ []
-no_octets [] e = refl
-no_octets (x ∷ xs) e = absurd (let k : ⊥ = omega arith in k)
-
 cut_octets : (l m n : ℕ) (t u : List ℕ) → length t ≡ m * record_size l → records_of l (m + n) (t ++ u) ≡ records_of l m t ++ records_of l n u
 unfolding records_of
 cut_octets l zero n t u e =
     let z : 0 + n ≡ n = omega arith in
-    ap₂ (λ (i : ℕ) (x : List ℕ). records_of l i (x ++ u)) z (no_octets t (omega arith))
+    ap₂ (λ (i : ℕ) (x : List ℕ). records_of l i (x ++ u)) z (nil_from_length t (omega arith))
 cut_octets l (suc m) n t u e =
     let s = suc-mul m (record_size l) in
     let d = length-drop (record_size l) t in

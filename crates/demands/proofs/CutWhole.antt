@@ -20,12 +20,12 @@ use Rattle.link.specs.declared.state.LinkState.{LinkState}
 use Rattle.sheet.specs.declared.walk.Layout.{Layout}
 use Rattle.slave.specs.Wanted.{Stepped, stepped_of}
 use Rattle.replay.specs.Replay.{Replayed, replayed, on_step, play_of, replay_of}
-use Rattle.replay.specs.Trace.{Traced, traced, kind_length, record_size, fault_of, record_at, formed, form_from, form_of, records_of, traced_of}
+use Rattle.replay.specs.Trace.{Traced, traced, kind_length, record_size, fault_of, record_at, formed, form_from, form_of, records_of, traced_of, fault_named}
 use Rattle.slave.specs.Answers.{told}
 use Rattle.replay.specs.declared.form.Record.{Record}
 use Rattle.replay.specs.declared.form.Record.TheVariants.{End, Whole, Bad}
 use Rattle.slave.specs.declared.answers.Answer.{Answer}
-use Rattle.replay.proofs.Forms.{form_end, form_on}
+use Rattle.replay.proofs.Forms.{form_end, form_bad, form_on}
 use Rattle.demands.specs.Replays.{Playable, goes_on, FormsJoin, further, ReplayCutInTwo}
 use Rattle.demands.specs.Writes.{ours}
 use Rattle.demands.proofs.Cut.{cut_in_two}
@@ -39,21 +39,18 @@ Joined p x y = (y.number ≡ 0 → x.number ≡ 0) × ((y.number ≡ 0 → ⊥) 
 -- where the form from a record on tells no fault, that record has none
 module _ (l : ℕ) (s : List ℕ) (k n : ℕ) (h : k * record_size l < length s) where
   form_first : (form_from l s k (suc n)).number ≡ 0 → fault_of l (drop (k * record_size l) s) ≡ 0
-  unfolding form_from formed record_at
   form_first z =
       ⊎_elim (λ e. e)
-      (λ e.
-      let bad = ap (λ (r : Record). (formed r (k * record_size l) (form_from l s (suc k) n)).number) (pick_gt _ _ h ∙ pick_ne _ _ e) in
-      absurd (e (sym bad ∙ z)))
+      (λ e. absurd (e (sym (ap (λ (a : Answer). a.number) (form_bad l s k n h _ refl e)) ∙ z)))
       (eq_or_ne (fault_of l (drop (k * record_size l) s)) 0)
 
 -- a whole record stays whole before further octets
 still_whole : (l : ℕ) (s u : List ℕ) → 0 < length s → fault_of l s ≡ 0 → fault_of l (s ++ u) ≡ 0
 unfolding fault_of
 still_whole l s u some e =
-    let p₁ = passed (eqb (kind_length (get_or s 0 0)) 0) (λ z. let k : ⊥ = omega arith in k) e in
-    let p₂ = passed (not (eqb (kind_length (get_or s 0 0)) l)) (λ z. let k : ⊥ = omega arith in k) p₁.1 in
-    let p₃ = passed (ltb (length s) (record_size l)) (λ z. let k : ⊥ = omega arith in k) p₂.1 in
+    let p₁ = passed (eqb (kind_length (get_or s 0 0)) 0) (λ z. omega arith) e in
+    let p₂ = passed (not (eqb (kind_length (get_or s 0 0)) l)) (λ z. omega arith) p₁.1 in
+    let p₃ = passed (ltb (length s) (record_size l)) (λ z. omega arith) p₂.1 in
     let kind : kind_length (get_or (s ++ u) 0 0) ≡ kind_length (get_or s 0 0) = ap kind_length (get_or-append s u 0 0 some) in
     let a = length-append s u in
     let c = ltb-false (length s) (record_size l) p₃.0 in
@@ -72,7 +69,7 @@ record_behind l t u at =
     (λ (h : at < length u).
     let h' : length t + at < length (t ++ u) = omega arith in
     pick_gt _ _ h'
-    ∙ ap (λ (rest : List ℕ). pick (eqb (fault_of l rest) 0) Whole (Bad (fault_of l rest))) (drop-append-add t u at)
+    ∙ ap (λ (rest : List ℕ). pick (eqb (fault_of l rest) 0) Whole (Bad (fault_named (fault_of l rest)))) (drop-append-add t u at)
     ∙ sym (pick_gt _ _ h))
     (λ (h : length u ≤ at).
     let h' : length (t ++ u) ≤ length t + at = omega arith in
@@ -128,10 +125,10 @@ module _ (l m : ℕ) (t u : List ℕ) (e : length t ≡ m * record_size l) where
   before (suc j) k zero i c f h z =
       let a = length-append t u in
       let b = inside j k c in
-      absurd (let x : ⊥ = omega arith in x)
+      absurd (omega arith)
   before (suc j) k (suc n) zero c f h z =
       let b = inside j k c in
-      absurd (let x : ⊥ = omega arith in x)
+      absurd (omega arith)
   before (suc j) k (suc n) (suc i) c f h z =
       let a = length-append t u in
       let s = suc-mul k (record_size l) in

@@ -78,7 +78,7 @@ acceptance_is_exact h sheet s m c r a = (to h sheet s m c r a, from h sheet s m 
 
 every : (asked : ℕ → Bool) (cs : List Cell) (a n : ℕ) → has_all asked cs a n ≡ true → (x : ℕ) → a ≤ x → x < a + n → has asked cs x ≡ true
 unfolding has_all
-every asked cs a zero e x l u = absurd (let k : ⊥ = omega arith in k)
+every asked cs a zero e x l u = absurd (omega arith)
 every asked cs a (suc n) e x l u =
     let p = (and-eq-true_iff (has asked cs a) (has_all asked cs (suc a) n)).0 e in
     ⊎_elim

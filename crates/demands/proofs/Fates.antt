@@ -5,24 +5,22 @@
 --     accepted-fate      and one with it is the row's
 --     in_both            what both types' tables have, a sheet's has
 --     row_stays, row_counts, fate_small    what links, counts and alarms have
-use mathlib.Core.Bool.{Bool, true, false, ◌&&◌, ◌||◌}
+use mathlib.Core.Bool.{Bool, true, false, ◌&&◌, or-false}
 use mathlib.Core.Path.{◌≡◌, refl, sym, ◌∙◌}
 use mathlib.Core.List.{List, [], ◌∷◌}
 use Prim.Native.Nat.{ℕ, ◌≤◌, ◌<◌}
 use native.Mathlib.Omega.{arith}
 use borrow.Author.Tests.{ltb-true, leb-true, eqb-true}
 use lib.Dec.{eqb, leb, ltb}
+use Rattle.std.proofs.lemmas.Bool.{and_parts}
 use Rattle.law.specs.Words.{when, implies, Every, one_of, piece, laid}
 use Rattle.law.specs.Sheet.{PduType, enhanced, short, Sheet, allows}
 use Rattle.law.specs.State.{link, command_latch, failures}
 use Rattle.law.specs.Table.{Check, check, Row, enhanced_table, short_table, table_of, table}
 use Rattle.law.specs.Exchange.{Fate, fate, code, lost, tolerated, failing, passing, missed, refused, checked, judged, fate_of}
+use Rattle.law.proofs.Clauses.{implied}
 use Rattle.law.proofs.Laid.{when_yes, when_no}
 use Rattle.demands.specs.Places.{Holds}
-
-pub both : (a b : Bool) → a && b ≡ true → (a ≡ true) × (b ≡ true)
-both true b e = (refl, e)
-both false b e = absurd (let z : ◌≡◌ {A = ℕ} 0 1 = cc in let v : ⊥ = omega arith in v)
 
 pub when_cases : (P : Fate → Type 0) (b : Bool) {x y : Fate} → (b ≡ true → P x) → (b ≡ false → P y) → P (when b x y)
 unfolding when
@@ -43,18 +41,14 @@ pub record Named (a place : ℕ) : Type 0 where
   pub small : a < 16
   pub whole : one_of a (8 ∷ 12 ∷ []) ≡ true → place ≡ 0
 
-holds_then : (a b : Bool) → implies a b ≡ true → a ≡ true → b ≡ true
-holds_then true b e q = e
-holds_then false b e q = absurd (let z : ◌≡◌ {A = ℕ} 0 1 = cc in let v : ⊥ = omega arith in v)
-
 pub check_named : (k : Check) → named_check k ≡ true → Named k.alarm k.place
 check_named k e =
-    let p = both _ _ e in
-    let q = both _ _ p.1 in
+    let p = and_parts _ _ e in
+    let q = and_parts _ _ p.1 in
     record {
       some = leb-true 1 k.alarm p.0;
       small = ltb-true k.alarm 16 q.0;
-      whole = λ t. eqb-true k.place 0 (holds_then _ _ q.1 t);
+      whole = λ t. eqb-true k.place 0 (implied _ _ q.1 t);
     }
 
 abbrev pub named_rows : List Row → Bool
@@ -70,7 +64,7 @@ module _ (s : List ℕ) (P : Fate → Type 0) (not_done : (a place : ℕ) → Na
   unfolding checked
   checked_by [] r e go = go tt
   checked_by (k ∷ ks) r e go =
-      let p = both _ _ e in
+      let p = and_parts _ _ e in
       when_cases P k.holds (λ t. checked_by ks r p.1 (λ all. go (t, all))) (λ f. not_done k.alarm k.place (check_named k p.0))
 
   -- each row that is done: its link allows it, and its checks hold
@@ -82,7 +76,7 @@ module _ (s : List ℕ) (P : Fate → Type 0) (not_done : (a place : ℕ) → Na
   unfolding judged
   judged_in code [] e all = not_done 8 0 (record { some = omega arith; small = omega arith; whole = λ t. refl })
   judged_in code (r ∷ rs) e all =
-      let p = both _ _ e in
+      let p = and_parts _ _ e in
       when_cases P (eqb code r.code)
       (λ t. checked_by (check (one_of (link s) r.links) 12 0 ∷ r.checks) r p.0 (λ q. all.0 (eqb-true code r.code t) q.0 q.1))
       (λ f. judged_in code rs p.1 all.1)
@@ -161,8 +155,8 @@ module _ (h : Sheet) (s m c : List ℕ) where
       judged_by s (λ f. link s ≡ 3 → laid f.changes 1 (link s) ≡ 2 → ⊥)
       (λ a place w e q. same e (sym (latch_stays (eqb (command_latch s) 0) a (link s)) ∙ q)) (code c) (table h s m c) named
       (in_both h s m c (Every _)
-      (stay, (stay, (stay, (stay, (stay, (stay, (away 2 (omega arith), (away 1 (omega arith), (λ a b e q. let w : ⊥ = omega arith in w, (stay, (stay, tt)))))))))))
-      (stay, (stay, (stay, (stay, (stay, (stay, (away 2 (omega arith), (away 1 (omega arith), (λ a b e q. let w : ⊥ = omega arith in w, tt))))))))))
+      (stay, (stay, (stay, (stay, (stay, (stay, (away 2 (omega arith), (away 1 (omega arith), (λ a b e q. omega arith, (stay, (stay, tt)))))))))))
+      (stay, (stay, (stay, (stay, (stay, (stay, (away 2 (omega arith), (away 1 (omega arith), (λ a b e q. omega arith, tt))))))))))
     where
       same : link s ≡ 3 → link s ≡ 2 → ⊥
       same e q = omega arith
@@ -170,13 +164,9 @@ module _ (h : Sheet) (s m c : List ℕ) where
       stay : {A B : Type 0} → A → B → link s ≡ 3 → link s ≡ 2 → ⊥
       stay a b = same
 
-      first : (b : Bool) → b || false ≡ true → b ≡ true
-      first true e = refl
-      first false e = e
-
       -- SYNC_SET and CONNECT are not allowed in link 3
       away : {B C : Type 0} (only : ℕ) → only < 3 → one_of (link s) (only ∷ []) ≡ true → B → link s ≡ 3 → C → ⊥
-      away only l a b e q = let k = eqb-true (link s) only (first (eqb (link s) only) a) in omega arith
+      away only l a b e q = let k = eqb-true (link s) only (sym (or-false (eqb (link s) only)) ∙ a) in omega arith
 
   -- no command that is judged touches the count
   pub row_counts : (n : ℕ) → laid row.changes 10 n ≡ n

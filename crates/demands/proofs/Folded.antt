@@ -41,7 +41,7 @@ folded sheet l most (differed {k = k} {state = state} {memory = memory} {t = t} 
       last_state = refl;
       last_memory = refl;
       replies = refl;
-      all = λ z. absurd (let k : ⊥ = omega arith in k);
+      all = λ z. absurd (omega arith);
       otherwise = λ n. (
         refl,
         record {

@@ -111,7 +111,7 @@ module _ (h : Sheet) (more : List Region) (w : WellFormed h) (w₂ : WellFormed 
       let y = stepped_of h.l s m t.reply (exchange_of one s m t.command t.reply) in
       ⊎_elim
       (λ (a : y.at < h.l). pick_lt _ _ a ∙ sym (pick_lt _ _ a))
-      (λ (a : h.l ≤ y.at). pick_ge _ _ a ∙ play_granted ts (suc k) y.state y.memory (calm.1 (λ z. let v : ⊥ = omega arith in v)) ∙ sym (pick_ge _ _ a))
+      (λ (a : h.l ≤ y.at). pick_ge _ _ a ∙ play_granted ts (suc k) y.state y.memory (calm.1 (λ z. omega arith)) ∙ sym (pick_ge _ _ a))
       (lt_or_le y.at h.l)
       ∙ ap (λ (x : Left). on_step h.l k (stepped_of h.l s m t.reply x) (λ a b. play_of two h.l (suc k) a b ts)) e
 

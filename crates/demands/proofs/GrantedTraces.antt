@@ -1,5 +1,5 @@
 -- Request 11: traces that the first sheet's drive answered, and a case in which alarm 10 was given.
-use mathlib.Core.Bool.{Bool, true, false}
+use mathlib.Core.Bool.{true}
 use mathlib.Core.List.{List, [], ◌∷◌}
 use mathlib.Core.Logic.{inl, inr}
 use mathlib.Core.Path.{◌≡◌, refl, sym, ap, subst, ◌∙◌}
@@ -24,9 +24,6 @@ use Rattle.demands.specs.Sequences.{Exchange, call_of, run_of}
 use Rattle.demands.proofs.Agreed.{traces_have_replies}
 use Rattle.demands.proofs.Done.{answered_done, seen_alarm}
 use Rattle.demands.proofs.GrantedRuns.{replay_granted}
-
-never : {A : Type 0} → ◌≡◌ {A = Bool} false true → A
-never e = absurd (let z : ◌≡◌ {A = ℕ} 0 1 = cc in let v : ⊥ = omega arith in v)
 
 -- the first of two lists that are the same, and the rest
 first_same : {A : Type 0} {x y : A} {xs ys : List A} → x ∷ xs ≡ y ∷ ys → x ≡ y
@@ -114,7 +111,7 @@ answered rights few = record {
   whole = refl;
   asked = refl;
   lent = refl;
-  enabled = λ e. let w : ⊥ = omega arith in w;
+  enabled = λ e. omega arith;
 }
 
 lacks : (fate_of (sheet 0) connected (0x55 ∷ []) reads).alarm ≡ 10
@@ -134,9 +131,9 @@ alarm_of_lem rights few =
 -- no right at all
 none_before : (k : ℕ) → k ≤ 2 → bit 0 k ≡ true → bit 1 k ≡ true
 none_before zero l e = refl
-none_before (suc zero) l e = never e
-none_before (suc (suc zero)) l e = never e
-none_before (suc (suc (suc k))) l e = absurd (let w : ⊥ = omega arith in w)
+none_before (suc zero) l e = cc
+none_before (suc (suc zero)) l e = cc
+none_before (suc (suc (suc k))) l e = absurd (omega arith)
 
 pub not_without_it : NotWithoutIt
 unfolding run_of call_of
@@ -151,5 +148,5 @@ not_without_it = record {
   calls = Exchange reads (replicate 16 0) ∷ [];
   differ = λ e.
       let ten : ◌≡◌ {A = ℕ} 10 0 = sym (alarm_of_lem 0 (omega arith) ∙ lacks) ∙ ap (λ (l : Left). alarm_in (sheet 0) l.reply) (first_same e) ∙ alarm_of_lem 1 (omega arith) ∙ accepts in
-      let w : ⊥ = omega arith in w;
+      omega arith;
 }

@@ -8,6 +8,7 @@ use borrow.Author.Tests.{eqb-true, not-false}
 use lib.Dec.{eqb}
 use lib.ListN.{length}
 use lib.Seq.{ext_get_or}
+use Rattle.std.specs.Prelude.{None, Option, Some, Ok, Err}
 use Rattle.octets.specs.Pick.{pick}
 use Rattle.frame.specs.Fields.{command_of}
 use Rattle.frame.specs.Unnamed.{stray_of}
@@ -16,16 +17,13 @@ use Rattle.frame.specs.Places.{Sized}
 use Rattle.frame.proofs.Alike.{command_alike, memory_alike, reply_long, reply_alike, bits_alike}
 use Rattle.link.specs.Stored.{state_of}
 use Rattle.link.specs.declared.state.LinkState.{LinkState}
-use Rattle.link.specs.declared.stored.Stored.{Stored}
-use Rattle.link.specs.declared.stored.Stored.TheVariants.{State, Invalid}
 use Rattle.machine.specs.Outcomes.{outcome_of}
 use Rattle.machine.specs.declared.words.Command.{Command}
 use Rattle.machine.specs.declared.words.Outcome.{Outcome}
 use Rattle.machine.proofs.Alike.{outcome_alike}
+use Rattle.sheet.specs.Told.{Verdict}
 use Rattle.sheet.specs.Walk.{verdict_of}
 use Rattle.sheet.specs.declared.walk.Layout.{Layout}
-use Rattle.sheet.specs.declared.walk.Verdict.{Verdict}
-use Rattle.sheet.specs.declared.walk.Verdict.TheVariants.{Valid, Faulty}
 use Rattle.sheet.proofs.Valid.{valid_sheet, length_least}
 use Rattle.slave.specs.Answers.{told, on_sheet, on_state}
 use Rattle.slave.specs.Exchange.{outcome_for, Left, left, left_of, refusal_of, exchanged, exchange_of}
@@ -57,23 +55,23 @@ pub record Shapes (c d : List ℕ) : Type 0 where
 
 shapes : (c d : List ℕ) → 4 ≤ length c → OnlyControlDiffers c d → Shapes c d
 shapes (a₀ ∷ a₁ ∷ x₂ ∷ x₃ ∷ t) (b₀ ∷ b₁ ∷ y₂ ∷ y₃ ∷ u) l o =
-    let e₀ : a₀ ≡ b₀ = o.others 0 (λ z. let w : ⊥ = omega arith in w) (λ z. let w : ⊥ = omega arith in w) in
-    let e₁ : a₁ ≡ b₁ = o.others 1 (λ z. let w : ⊥ = omega arith in w) (λ z. let w : ⊥ = omega arith in w) in
+    let e₀ : a₀ ≡ b₀ = o.others 0 (λ z. omega arith) (λ z. omega arith) in
+    let e₁ : a₁ ≡ b₁ = o.others 1 (λ z. omega arith) (λ z. omega arith) in
     let long = o.long in
-    let e : t ≡ u = ext_get_or 0 t u (omega arith) (λ k v. o.others (suc (suc (suc (suc k)))) (λ z. let w : ⊥ = omega arith in w) (λ z. let w : ⊥ = omega arith in w)) in
+    let e : t ≡ u = ext_get_or 0 t u (omega arith) (λ k v. o.others (suc (suc (suc (suc k)))) (λ z. omega arith) (λ z. omega arith)) in
     record { a₀ = a₀; a₁ = a₁; x₂ = x₂; x₃ = x₃; y₂ = y₂; y₃ = y₃; t = t; first = refl; second = λ i. sym e₀ i ∷ sym e₁ i ∷ y₂ ∷ y₃ ∷ sym e i }
-shapes (a₀ ∷ a₁ ∷ x₂ ∷ x₃ ∷ t) [] l o = absurd (let long = o.long in let w : ⊥ = omega arith in w)
-shapes (a₀ ∷ a₁ ∷ x₂ ∷ x₃ ∷ t) (b₀ ∷ []) l o = absurd (let long = o.long in let w : ⊥ = omega arith in w)
-shapes (a₀ ∷ a₁ ∷ x₂ ∷ x₃ ∷ t) (b₀ ∷ b₁ ∷ []) l o = absurd (let long = o.long in let w : ⊥ = omega arith in w)
-shapes (a₀ ∷ a₁ ∷ x₂ ∷ x₃ ∷ t) (b₀ ∷ b₁ ∷ y₂ ∷ []) l o = absurd (let long = o.long in let w : ⊥ = omega arith in w)
-shapes [] d l o = absurd (let w : ⊥ = omega arith in w)
-shapes (a₀ ∷ []) d l o = absurd (let w : ⊥ = omega arith in w)
-shapes (a₀ ∷ a₁ ∷ []) d l o = absurd (let w : ⊥ = omega arith in w)
-shapes (a₀ ∷ a₁ ∷ x₂ ∷ []) d l o = absurd (let w : ⊥ = omega arith in w)
+shapes (a₀ ∷ a₁ ∷ x₂ ∷ x₃ ∷ t) [] l o = absurd (let long = o.long in omega arith)
+shapes (a₀ ∷ a₁ ∷ x₂ ∷ x₃ ∷ t) (b₀ ∷ []) l o = absurd (let long = o.long in omega arith)
+shapes (a₀ ∷ a₁ ∷ x₂ ∷ x₃ ∷ t) (b₀ ∷ b₁ ∷ []) l o = absurd (let long = o.long in omega arith)
+shapes (a₀ ∷ a₁ ∷ x₂ ∷ x₃ ∷ t) (b₀ ∷ b₁ ∷ y₂ ∷ []) l o = absurd (let long = o.long in omega arith)
+shapes [] d l o = absurd (omega arith)
+shapes (a₀ ∷ []) d l o = absurd (omega arith)
+shapes (a₀ ∷ a₁ ∷ []) d l o = absurd (omega arith)
+shapes (a₀ ∷ a₁ ∷ x₂ ∷ []) d l o = absurd (omega arith)
 
 module _ (sheet state memory reply : List ℕ) where
   -- an exchange that nothing refuses
-  exchanged_alike : (a₀ a₁ x₂ x₃ y₂ y₃ : ℕ) (t : List ℕ) (lay : Layout) (st : LinkState) → verdict_of sheet ≡ Valid lay
+  exchanged_alike : (a₀ a₁ x₂ x₃ y₂ y₃ : ℕ) (t : List ℕ) (lay : Layout) (st : LinkState) → verdict_of sheet ≡ Ok lay
       → (lay.release ≡ 2 → ⊥) → refusal_of lay st (length memory) (length (a₀ ∷ a₁ ∷ x₂ ∷ x₃ ∷ t)) (length reply) ≡ 0
       → OnlyIdentityDiffers (exchanged sheet lay st memory (a₀ ∷ a₁ ∷ x₂ ∷ x₃ ∷ t)) (exchanged sheet lay st memory (a₀ ∷ a₁ ∷ y₂ ∷ y₃ ∷ t))
   unfolding exchanged
@@ -101,7 +99,7 @@ module _ (sheet state memory reply : List ℕ) where
       })
 
   module _ (c d : List ℕ) (r1 : NotRelease2 sheet) (o : OnlyControlDiffers c d) where
-    answered_alike : (lay : Layout) (st : LinkState) → verdict_of sheet ≡ Valid lay → refusal_of lay st (length memory) (length c) (length reply) ≡ 0
+    answered_alike : (lay : Layout) (st : LinkState) → verdict_of sheet ≡ Ok lay → refusal_of lay st (length memory) (length c) (length reply) ≡ 0
         → OnlyIdentityDiffers (exchanged sheet lay st memory c) (exchanged sheet lay st memory d)
     answered_alike lay st v free =
         let least = length_least sheet lay (valid_sheet sheet lay v) in
@@ -123,22 +121,22 @@ module _ (sheet state memory reply : List ℕ) where
         pick (not (eqb (refusal_of lay st (length memory) n (length reply)) 0))
         (left (told (refusal_of lay st (length memory) n (length reply)) 0) state memory reply) (exchanged sheet lay st memory e)
 
-    with_state : (lay : Layout) → verdict_of sheet ≡ Valid lay → (x : Stored)
+    with_state : (lay : Layout) → verdict_of sheet ≡ Ok lay → (x : Option LinkState)
         → OnlyIdentityDiffers (on_state x (left (told 1 0) state memory reply) (λ st. behind_state lay st (length c) c))
         (on_state x (left (told 1 0) state memory reply) (λ st. behind_state lay st (length d) d))
     unfolding on_state
-    with_state lay v (State st) =
+    with_state lay v (Some st) =
         subst (λ (n : ℕ). OnlyIdentityDiffers (behind_state lay st (length c) c) (behind_state lay st n d)) o.long
         (picked _ _ _ _ (λ e. answered_alike lay st v (eqb-true _ 0 (not-false _ e))))
-    with_state lay v Invalid = itself _
+    with_state lay v None = itself _
 
     with_sheet : (x : Verdict) → verdict_of sheet ≡ x
         → OnlyIdentityDiffers
         (on_sheet x (λ refusal. left refusal state memory reply) (λ lay. on_state (state_of state lay.l lay.tolerance) (left (told 1 0) state memory reply) (λ st. behind_state lay st (length c) c)))
         (on_sheet x (λ refusal. left refusal state memory reply) (λ lay. on_state (state_of state lay.l lay.tolerance) (left (told 1 0) state memory reply) (λ st. behind_state lay st (length d) d)))
     unfolding on_sheet
-    with_sheet (Valid lay) v = with_state lay v (state_of state lay.l lay.tolerance)
-    with_sheet (Faulty fault place) v = itself _
+    with_sheet (Ok lay) v = with_state lay v (state_of state lay.l lay.tolerance)
+    with_sheet (Err e) v = itself _
 
 pub control_is_ignored : ControlIsIgnored
 unfolding exchange_of

@@ -19,12 +19,12 @@ use Rattle.law.specs.Exchange.{Fate, fate, code, missed, refused, checked, judge
 use Rattle.law.proofs.Laid.{when_yes, when_no}
 use Rattle.demands.specs.Places.{Asked, asked, asked_spans, FirstLacks, FirstWithoutTheRight}
 use Rattle.demands.proofs.Fates.{when_cases, in_both}
-use Rattle.demands.proofs.Places.{never, place_is, alarm_is}
+use Rattle.demands.proofs.Places.{place_is, alarm_is}
 
 -- the count before the first octet that lacks a right tells that octet
 first_lacks : (right : ℕ → Bool) (cs : List Cell) (k a n : ℕ) → has_all right cs a n ≡ false → FirstLacks cs (asked k right a n) (has_before right cs a n)
 unfolding has_all has_before
-first_lacks right cs k a zero f = never f
+first_lacks right cs k a zero f = cc
 first_lacks right cs k a (suc n) f =
     ⊎_elim
     (λ (t : has right cs a ≡ true).
@@ -44,7 +44,7 @@ first_lacks right cs k a (suc n) f =
     record {
       in_the_span = omega (arith, at);
       lacks = ap (has right cs) (let e : a + has_before right cs a (suc n) ≡ a = omega (arith, at) in e) ∙ t;
-      before_have = λ x u v. absurd (let w : ⊥ = omega (arith, at, u, v) in w);
+      before_have = λ x u v. absurd (omega (arith, at, u, v));
     })
     (decided (has right cs a))
 
@@ -58,14 +58,14 @@ module _ (h : Sheet) (s m c : List ℕ) where
   other a place z = record { lacks = λ e. absurd (z e) }
 
   nine : (place : ℕ) → Told (refused s 9 place)
-  nine place = other 9 place (λ z. let w : ⊥ = omega arith in w)
+  nine place = other 9 place (λ z. omega arith)
 
   -- a check with alarm 9, and what stands behind it
   behind : (b : Bool) (place : ℕ) {f : Fate} → Told f → Told (when b f (refused s 9 place))
   behind b place t = when_cases Told b (λ _. t) (λ _. nine place)
 
   done : (ps body stores : List Piece) → Told (fate 0 0 ps body stores)
-  done ps body stores = record { lacks = λ e. absurd (let w : ⊥ = omega arith in w) }
+  done ps body stores = record { lacks = λ e. absurd (omega arith) }
 
   -- the check of rights, which is the last
   rights : (right : ℕ → Bool) (k a size : ℕ) (ps body stores : List Piece)
@@ -78,10 +78,10 @@ module _ (h : Sheet) (s m c : List ℕ) where
 
   by_rows : (rs : List Row) → Every (λ (r : Row). code c ≡ r.code → Told (checked s r.checks r)) rs → Told (judged s (code c) rs)
   unfolding judged checked
-  by_rows [] all = other 8 0 (λ z. let w : ⊥ = omega arith in w)
+  by_rows [] all = other 8 0 (λ z. omega arith)
   by_rows (r ∷ rs) all =
       when_cases Told (eqb (code c) r.code)
-      (λ e. when_cases Told (one_of (link s) r.links) (λ _. all.0 (eqb-true (code c) r.code e)) (λ _. other 12 0 (λ z. let w : ⊥ = omega arith in w)))
+      (λ e. when_cases Told (one_of (link s) r.links) (λ _. all.0 (eqb-true (code c) r.code e)) (λ _. other 12 0 (λ z. omega arith)))
       (λ _. by_rows rs all.1)
 
   told : Told (judged s (code c) (table h s m c))
@@ -96,7 +96,7 @@ module _ (h : Sheet) (s m c : List ℕ) where
   unfolding fate_of
   fate_told =
       when_cases Told (missed h s c)
-      (λ _. when_cases Told (ltb (failures s) (allows h)) (λ _. record { lacks = λ e. absurd (let w : ⊥ = omega arith in w) }) (λ _. record { lacks = λ e. absurd (let w : ⊥ = omega arith in w) }))
+      (λ _. when_cases Told (ltb (failures s) (allows h)) (λ _. record { lacks = λ e. absurd (omega arith) }) (λ _. record { lacks = λ e. absurd (omega arith) }))
       (λ _. record { lacks = told.lacks })
 
 pub first_without_the_right : FirstWithoutTheRight

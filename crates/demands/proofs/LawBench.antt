@@ -73,10 +73,10 @@ bench_by_law = (
                           inl (law_p, p_good, refl, refl),
                           -- an empty sheet: before an end record, and before any record
                           (
-                            inr (11, 0, inr (omega arith, record { sofar = nothing; good = tt; rest = []; split = refl; which = inl (refl, inl (λ (q : 1 ≤ 0). let w : ⊥ = omega arith in w, refl)) }), refl),
+                            inr (11, 0, inr (omega arith, record { sofar = nothing; good = tt; rest = []; split = refl; which = inl (refl, inl (λ (q : 1 ≤ 0). omega arith, refl)) }), refl),
                             -- P's records, and no end record
                             (
-                              inr (11, 32, inr (omega arith, record { sofar = records law_p; good = p_good; rest = []; split = refl; which = inl (refl, inl (λ (q : 1 ≤ 0). let w : ⊥ = omega arith in w, refl)) }), refl),
+                              inr (11, 32, inr (omega arith, record { sofar = records law_p; good = p_good; rest = []; split = refl; which = inl (refl, inl (λ (q : 1 ≤ 0). omega arith, refl)) }), refl),
                               -- P and one octet more: it stands behind the end record
                               (
                                 inr (13, 33, inr (omega arith, record { sofar = records law_p; good = p_good; rest = 0 ∷ 0 ∷ []; split = refl; which = inr ((refl, omega arith), refl, refl) }), refl),

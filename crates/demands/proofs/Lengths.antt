@@ -4,6 +4,7 @@ use mathlib.Core.List.{List}
 use Prim.Native.Nat.{ℕ}
 use borrow.Author.Tests.{eqb-true, not-false}
 use lib.ListN.{length}
+use Rattle.std.specs.Prelude.{Ok}
 use Rattle.octets.proofs.Pick.{pick_cases}
 use Rattle.frame.specs.Body.{Fitting}
 use Rattle.frame.specs.Fields.{command_of}
@@ -16,7 +17,6 @@ use Rattle.link.specs.declared.state.LinkState.{LinkState}
 use Rattle.machine.specs.declared.words.Outcome.{Outcome}
 use Rattle.sheet.specs.Walk.{verdict_of}
 use Rattle.sheet.specs.declared.walk.Layout.{Layout}
-use Rattle.sheet.specs.declared.walk.Verdict.TheVariants.{Valid}
 use Rattle.sheet.proofs.Valid.{valid_sheet}
 use Rattle.slave.specs.Exchange.{Left, outcome_for, refusal_of, exchanged, exchange_of}
 use Rattle.slave.proofs.Fits.{valid_sized, outcome_fits}
@@ -24,7 +24,7 @@ use Rattle.slave.proofs.Order.{no_refusal}
 use Rattle.demands.proofs.Refusals.{by_sheet, by_state}
 
 -- an exchange that is answered
-module _ (sheet memory command reply : List ℕ) (lay : Layout) (st : LinkState) (v : verdict_of sheet ≡ Valid lay)
+module _ (sheet memory command reply : List ℕ) (lay : Layout) (st : LinkState) (v : verdict_of sheet ≡ Ok lay)
     (free : refusal_of lay st (length memory) (length command) (length reply) ≡ 0) where
   abbrev o : Outcome
   o = outcome_for sheet lay st command

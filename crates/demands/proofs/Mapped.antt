@@ -1,5 +1,5 @@
 -- A parameter's span lies in regions, and the check that asks it never fires.
-use mathlib.Core.Bool.{Bool, true, false, ◌&&◌, ◌||◌}
+use mathlib.Core.Bool.{Bool, true, false, ◌&&◌, ◌||◌, true≢false}
 use mathlib.Core.Logic.{⊎_elim}
 use mathlib.Core.Path.{◌≡◌, refl, sym, ap, ap₂, subst, ◌∙◌}
 use mathlib.Core.List.{List, [], ◌∷◌, map}
@@ -17,9 +17,6 @@ use Rattle.law.proofs.Laid.{when_yes, when_no}
 use Rattle.law.proofs.Spans.{inside, has_run}
 use Rattle.demands.specs.Mapped.{ParametersAreMapped, MappedIsNotAsked}
 
-never : {A : Type 0} → ◌≡◌ {A = Bool} true false → A
-never e = absurd (let z : ◌≡◌ {A = ℕ} 0 1 = cc in let v : ⊥ = omega arith in v)
-
 in_region : (rs : List Region) (a : ℕ) → Some (InRegion a) rs → has mapped (cells rs) a ≡ true
 in_region [] a s = absurd s
 in_region (r ∷ rs) a s =
@@ -27,7 +24,7 @@ in_region (r ∷ rs) a s =
     ∙ ⊎_elim (λ (t : inside r.start r.length a ≡ true). when_yes _ _ t)
     (λ (f : inside r.start r.length a ≡ false).
     when_no _ _ f
-    ∙ ⊎_elim (λ (j : InRegion a r). never (sym (ap₂ ◌&&◌ (le-leb r.start a j.0) (lt-ltb a (r.start + r.length) j.1)) ∙ f))
+    ∙ ⊎_elim (λ (j : InRegion a r). absurd (true≢false (sym (ap₂ ◌&&◌ (le-leb r.start a j.0) (lt-ltb a (r.start + r.length) j.1)) ∙ f)))
     (λ (j : Some (InRegion a) rs). in_region rs a j) s)
     (decided (inside r.start r.length a))
 
@@ -39,7 +36,7 @@ all_mapped rs a (suc n) f = ap₂ ◌&&◌ (in_region rs a (f a (omega arith) (o
 -- what every parameter has, the one that is found has
 found_has : (P : Parameter → Type 0) (ps : List Parameter) (n : ℕ) → Every P ps → one_of n (map (λ (p : Parameter). p.number) ps) ≡ true → P (parameter_of ps n)
 unfolding parameter_of
-found_has P [] n all e = never (sym e)
+found_has P [] n all e = cc
 found_has P (p ∷ ps) n all e =
     ⊎_elim (λ (q : p.number ≡ n). subst P (sym (when_yes _ _ (eq-eqb p.number n q))) all.0)
     (λ (q : p.number ≡ n → ⊥).

@@ -1,10 +1,9 @@
 -- What a command that is refused on the wire leaves.
-use mathlib.Core.Bool.{Bool, true, false, not, ◌&&◌}
+use mathlib.Core.Bool.{true, false, not, ◌&&◌, true≢false}
 use mathlib.Core.Logic.{⊎_elim}
 use mathlib.Core.Path.{◌≡◌, refl, sym, ap, ap₂, ◌∙◌}
 use mathlib.Core.List.{List, []}
 use Prim.Native.Nat.{ℕ}
-use native.Mathlib.Omega.{arith}
 use borrow.Author.Tests.{eq-eqb}
 use lib.ListN.{length, get_or}
 use Rattle.octets.proofs.Cases.{decided}
@@ -24,9 +23,6 @@ use Rattle.demands.specs.Answered.{Answered, alarm_in}
 use Rattle.demands.specs.OnTheWire.{RefusedByReply, RefusedOnTheWire}
 use Rattle.demands.proofs.Done.{lawful, answered_done, seen_whole, seen_code, seen_alarm, seen_zero}
 use Rattle.demands.proofs.Fates.{when_cases, fate_missed, fate_kept, row_refused}
-
-true_not_false : {A : Type 0} → ◌≡◌ {A = Bool} true false → A
-true_not_false e = absurd (let z : ◌≡◌ {A = ℕ} 0 1 = cc in let v : ⊥ = omega arith in v)
 
 module _ (h : Sheet) (sheet s m c r : List ℕ) (a : Answered h sheet s m c r) where
   abbrev x : Left
@@ -59,7 +55,7 @@ module _ (h : Sheet) (sheet s m c r : List ℕ) (a : Answered h sheet s m c r) w
 
   row_alarm : missed h s c ≡ false → accepted h s m c ≡ false → (judged s (code c) (table h s m c)).alarm ≡ 0 → ⊥
   row_alarm t f z =
-      true_not_false (sym (ap₂ ◌&&◌ (ap not t) (eq-eqb (judged s (code c) (table h s m c)).alarm 0 z)) ∙ f)
+      true≢false (sym (ap₂ ◌&&◌ (ap not t) (eq-eqb (judged s (code c) (table h s m c)).alarm 0 z)) ∙ f)
 
   refused_body : (n place : ℕ) → (refused s n place).body ≡ []
   unfolding refused
@@ -78,7 +74,7 @@ module _ (h : Sheet) (sheet s m c r : List ℕ) (a : Answered h sheet s m c r) w
       let seen : alarm_in h x.reply ≡ row.alarm = alarm_is ∙ ap (λ (g : Fate). g.alarm) k in
       let place : x.answer.place ≡ row.place = ap (λ (l : Left). l.answer.place) is ∙ ap (λ (g : Fate). g.place) k in
       by_fate (passing (refused s row.alarm row.place)) e (refused_body row.alarm row.place) (refused_memory row.alarm row.place)
-      (λ u. true_not_false (sym u ∙ t))
+      (λ u. cc)
       (λ u. (
         λ z. row_alarm t f (sym seen ∙ z),
         state_is (passing (refused s row.alarm row.place)) e ∙ ap₂ (λ (n p : ℕ). state_after s (mn h c) (passing (refused s n p)).changes) (sym seen) (sym place),
@@ -96,6 +92,6 @@ refused_on_the_wire h sheet s m c r a f =
     let q = quiet h s in
     by_fate h sheet s m c r a (failing h s) e q.1 q.2
     (λ u. (alarm_is h sheet s m c r a ∙ ap (λ (g : Fate). g.alarm) e ∙ q.0, state_is h sheet s m c r a (failing h s) e))
-    (λ u. true_not_false (sym t ∙ u)))
+    (λ u. cc))
     (λ (t : missed h s c ≡ false). by_row h sheet s m c r a t f)
     (decided (missed h s c))

@@ -60,12 +60,12 @@ answered_or h w s c r =
     ⊎_elim
     (λ (b : length r ≡ h.l).
     ⊎_elim
-    (λ (z : link s ≡ 0). inr (5, refuse 5 (λ k. let u : ⊥ = omega arith in u) (λ m e. pick_same _ _ e ∙ pick_same _ _ a ∙ pick_same _ _ b ∙ pick_eq _ _ z)))
+    (λ (z : link s ≡ 0). inr (5, refuse 5 (λ k. omega arith) (λ m e. pick_same _ _ e ∙ pick_same _ _ a ∙ pick_same _ _ b ∙ pick_eq _ _ z)))
     (λ (z : link s ≡ 0 → ⊥). inl (λ m e. record { good = w; written = refl; valid = v; whole = e; asked = a; lent = b; enabled = z }))
     (eq_or_ne (link s) 0))
-    (λ (b : length r ≡ h.l → ⊥). inr (4, refuse 4 (λ k. let u : ⊥ = omega arith in u) (λ m e. pick_same _ _ e ∙ pick_same _ _ a ∙ pick_differ _ _ b)))
+    (λ (b : length r ≡ h.l → ⊥). inr (4, refuse 4 (λ k. omega arith) (λ m e. pick_same _ _ e ∙ pick_same _ _ a ∙ pick_differ _ _ b)))
     (eq_or_ne (length r) h.l))
-    (λ (a : length c ≡ h.l → ⊥). inr (3, refuse 3 (λ k. let u : ⊥ = omega arith in u) (λ m e. pick_same _ _ e ∙ pick_differ _ _ a)))
+    (λ (a : length c ≡ h.l → ⊥). inr (3, refuse 3 (λ k. omega arith) (λ m e. pick_same _ _ e ∙ pick_differ _ _ a)))
     (eq_or_ne (length c) h.l))
     (λ (v : valid_state h s ≡ false). inr (1, λ m e. on_valid _ _ _ _ (complete h w) ∙ on_invalid _ _ _ (state_no h s v)))
     (decided (valid_state h s))

@@ -3,31 +3,28 @@
 --     fate_ends      in the short type none reaches RWDT
 --     fate_writes    an accepted write stores the command's own octets
 use mathlib.Core.Bool.{true}
-use mathlib.Core.Logic.{◌⊎◌, inl, inr, ⊎_elim}
+use mathlib.Core.Logic.{◌⊎◌, inl, inr}
 use mathlib.Core.Path.{◌≡◌, refl}
 use mathlib.Core.List.{List, [], ◌∷◌}
-use Prim.Native.Nat.{ℕ, zero, suc, ◌+◌, ◌-◌, ◌≤◌}
+use Prim.Native.Nat.{ℕ, ◌+◌, ◌-◌, ◌≤◌}
 use native.Mathlib.Omega.{arith}
 use borrow.Author.Tests.{leb-true, eqb-true}
 use lib.Dec.{eqb, leb}
 use lib.ListN.{length, take, drop}
+use Rattle.std.proofs.lemmas.List.{length-take}
 use Rattle.law.specs.Words.{Every, one_of, Piece, piece}
-use Rattle.law.specs.Sheet.{PduType, enhanced, short, Sheet, FiveLengths, GoodLength}
+use Rattle.law.specs.Sheet.{PduType, enhanced, short, Sheet, GoodLength}
 use Rattle.law.specs.State.{link}
 use Rattle.law.specs.Memory.{cells, writable, has_all, held}
 use Rattle.law.specs.Table.{Row, table, item_part, short_size, parameter, address, n}
 use Rattle.law.specs.Exchange.{Fate, refused, passing, fate_of}
 use Rattle.law.proofs.Held.{held_length}
+use Rattle.law.proofs.Worlds.{least}
 use Rattle.demands.specs.Places.{Holds}
 use Rattle.demands.proofs.Fates.{done_row, by_type, in_both, fate_by}
 
-pub least_length : (l : ℕ) → FiveLengths l → 8 ≤ l
-least_length l five =
-    ⊎_elim (λ (e : l ≡ 8). let w : 8 ≤ l = omega arith in w) (⊎_elim (λ (e : l ≡ 16). let w : 8 ≤ l = omega arith in w) (⊎_elim (λ (e : l ≡ 32). let w : 8 ≤ l = omega arith in w)
-    (⊎_elim (λ (e : l ≡ 48). let w : 8 ≤ l = omega arith in w) (λ (e : l ≡ 64). let w : 8 ≤ l = omega arith in w)))) five
-
 pub good_length : (pdu : PduType) (l : ℕ) → GoodLength pdu l → 8 ≤ l
-good_length enhanced l good = least_length l good
+good_length enhanced l good = least l good
 good_length short l good = omega arith
 
 -- how many octets the law's head has at the front of a reply
@@ -36,9 +33,7 @@ head_size = 4
 
 -- no more octets than are taken
 taken_most : (k : ℕ) (l : List ℕ) → length (take k l) ≤ k
-taken_most zero l = omega arith
-taken_most (suc k) [] = omega arith
-taken_most (suc k) (x ∷ xs) = let w = taken_most k xs in omega arith
+taken_most k l = simp length-take (omega arith)
 
 -- a size that is at most what L leaves behind a place
 fits_behind : (asked size l from : ℕ) → eqb asked size ≡ true → leb asked (l - from) ≡ true → from ≤ l → from + size ≤ l
@@ -85,7 +80,7 @@ module _ (h : Sheet) (s m c : List ℕ) where
 
   rows_end : EndsIn h.pdu (table h s m c)
   rows_end =
-      by_type h s m c EndsIn (λ e. absurd (let z : ◌≡◌ {A = ℕ} 0 1 = cc in let w : ⊥ = omega arith in w))
+      by_type h s m c EndsIn (λ e. cc)
       (λ e. (λ a b. tt, (λ a b. (three_echoed c, (read_ends _ (parameter h s m c).size (parameter h s m c).address b.1.0 b.1.1.0, tt)), (λ a b. (three_echoed c, (sent_ends _ (parameter h s m c).size c b.1.0 b.1.1.0, tt)), (λ a b. (three_echoed c, (item_ends (short_size h s m c) b.1.1.1.0, tt)), (λ a b. (omega arith, tt), (λ a b. tt, (λ a b. tt, (λ a b. (three_echoed c, tt), (λ a b. tt, tt))))))))))
       h.pdu
 
@@ -110,7 +105,7 @@ module _ (h : Sheet) (s m c : List ℕ) where
   rows_write : WritesIn h.pdu (table h s m c)
   rows_write =
       by_type h s m c WritesIn
-      (λ good. (λ a b. inl refl, (λ a b. inl refl, (λ a b. inr (record { alarm = refl; address = (parameter h s m c).address; size = (parameter h s m c).size; from = _; stores = refl; right = b.1.1.1.1.0; fits = fits_behind _ (parameter h s m c).size h.l _ b.1.0 b.1.1.0 (least_length h.l good) }), (λ a b. inl refl, (λ a b. inl refl, (λ a b. inl refl, (λ a b. inl refl, (λ a b. inl refl, (λ a b. inl refl, (λ a b. inl refl, (λ a b. inr (record { alarm = refl; address = address h s m c; size = n h s m c; from = _; stores = refl; right = b.1.1.1.1.1.0; fits = fits_least (n h s m c) h.l _ b.1.0 b.1.1.0 }), tt))))))))))))
+      (λ good. (λ a b. inl refl, (λ a b. inl refl, (λ a b. inr (record { alarm = refl; address = (parameter h s m c).address; size = (parameter h s m c).size; from = _; stores = refl; right = b.1.1.1.1.0; fits = fits_behind _ (parameter h s m c).size h.l _ b.1.0 b.1.1.0 (least h.l good) }), (λ a b. inl refl, (λ a b. inl refl, (λ a b. inl refl, (λ a b. inl refl, (λ a b. inl refl, (λ a b. inl refl, (λ a b. inl refl, (λ a b. inr (record { alarm = refl; address = address h s m c; size = n h s m c; from = _; stores = refl; right = b.1.1.1.1.1.0; fits = fits_least (n h s m c) h.l _ b.1.0 b.1.1.0 }), tt))))))))))))
       (λ good. (λ a b. inl refl, (λ a b. inl refl, (λ a b. inr (record { alarm = refl; address = (parameter h s m c).address; size = (parameter h s m c).size; from = _; stores = refl; right = b.1.1.1.1.0; fits = fits_eight _ (parameter h s m c).size h.l b.1.0 b.1.1.0 good }), (λ a b. inl refl, (λ a b. inl refl, (λ a b. inl refl, (λ a b. inl refl, (λ a b. inl refl, (λ a b. inl refl, tt))))))))))
       h.pdu
 

@@ -6,8 +6,9 @@ use mathlib.Core.Path.{◌≡◌, refl, sym, ap, ◌∙◌}
 use mathlib.Core.List.{List, [], ◌∷◌, ◌++◌, map}
 use Prim.Native.Nat.{ℕ}
 use native.Mathlib.Omega.{arith}
-use borrow.Author.Tests.{eq-eqb, ne_eqb}
+use borrow.Author.Tests.{eq-eqb, ne_eqb, not-true, eqb-false}
 use lib.Dec.{eqb, ltb}
+use Rattle.std.proofs.lemmas.Bool.{and_parts}
 use Rattle.octets.proofs.Cases.{decided}
 use Rattle.law.specs.Words.{when, Every, one_of}
 use Rattle.law.specs.Sheet.{Sheet, sheet_octets, allows}
@@ -24,16 +25,13 @@ use Rattle.demands.specs.Sequences.{run_of}
 use Rattle.demands.proofs.Done.{answered_done, seen_alarm}
 use Rattle.demands.proofs.Exact.{acceptance_is_exact}
 use Rattle.demands.proofs.OnTheWire.{quiet}
-use Rattle.demands.proofs.Fates.{both, named_checks, named_rows, check_named, done_row, by_type, in_both, named, fate_by, fate_missed, fate_kept, when_cases}
+use Rattle.demands.proofs.Fates.{named_checks, named_rows, check_named, done_row, by_type, in_both, named, fate_by, fate_missed, fate_kept, when_cases}
 use Rattle.demands.proofs.Runs.{demand_3}
 
 pub octets_of_the_fields : OctetsOfTheFields
 unfolding when
 octets_of_the_fields h s m c =
     by_type h s m c (λ pdu rs. map (λ (r : Row). r.code ∷ data_places r.checks) rs ≡ each_with (places_of pdu) (map (λ (r : Row). stray_in h s m c pdu r.named) rs)) refl refl h.pdu
-
-pub never : {A : Type 0} → ◌≡◌ {A = Bool} true false → A
-never e = absurd (let z : ◌≡◌ {A = ℕ} 0 1 = cc in let v : ⊥ = omega arith in v)
 
 -- the row of a code
 module _ (s : List ℕ) (k : ℕ) where
@@ -54,28 +52,24 @@ module _ (s : List ℕ) (k : ℕ) where
   Unlike [] = true
   Unlike (r ∷ rs) = Without r.code rs && Unlike rs
 
-  not_false : (b : Bool) → not b ≡ true → b ≡ false
-  not_false true e = never (sym e)
-  not_false false e = refl
-
   -- a row before those with the code is passed
   passed : (r : Row) (rest qs : List Row) → Without r.code qs ≡ true → Every (Judges rest) qs → Every (Judges (r ∷ rest)) qs
   unfolding judged
   passed r rest [] w all = tt
   passed r rest (q ∷ qs) w all =
-      let p = both _ _ w in (
-        λ e. when_no _ _ (ap (λ (x : ℕ). eqb x r.code) e ∙ other r.code q.code (not_false _ p.0)) ∙ all.0 e,
+      let p = and_parts _ _ w in (
+        λ e. when_no _ _ (ap (λ (x : ℕ). eqb x r.code) e ∙ other r.code q.code (not-true _ p.0)) ∙ all.0 e,
         passed r rest qs p.1 all.1,
       )
     where
       other : (x y : ℕ) → eqb x y ≡ false → eqb y x ≡ false
-      other x y f = ne_eqb y x (λ e. never (sym (eq-eqb x y (sym e)) ∙ f))
+      other x y f = ne_eqb y x (λ e. eqb-false x y f (sym e))
 
   pub row_of : (rs : List Row) → Unlike rs ≡ true → Every (Judges rs) rs
   unfolding judged
   row_of [] u = tt
   row_of (r ∷ rs) u =
-      let p = both _ _ u in
+      let p = and_parts _ _ u in
       (λ e. when_yes _ _ (eq-eqb k r.code e), passed r rs rs p.0 (row_of rs p.1))
 
 -- what a row's checks come to
@@ -95,13 +89,13 @@ no_alarm_holds : (s : List ℕ) (ks : List Check) (r : Row) → named_checks ks 
 unfolding checked refused
 no_alarm_holds s [] r e z = tt
 no_alarm_holds s (k ∷ ks) r e z =
-    let p = both _ _ e in
+    let p = and_parts _ _ e in
     ⊎_elim
     (λ (t : k.holds ≡ true). (t, no_alarm_holds s ks r p.1 (sym (ap (λ (f : Fate). f.alarm) (when_yes _ _ t)) ∙ z)))
     (λ (t : k.holds ≡ false).
     let a = (check_named k p.0).some in
     let q : k.alarm ≡ 0 = sym (ap (λ (f : Fate). f.alarm) (when_no _ _ t)) ∙ z in
-    absurd (let w : ⊥ = omega (arith, a, q) in w))
+    absurd (omega (arith, a, q)))
     (decided k.holds)
 
 -- an answered exchange
@@ -149,9 +143,9 @@ module _ (h : Sheet) (sheet s m c r : List ℕ) (a : Answered h sheet s m c r) w
 
     each : (rs : List Row) → named_rows rs ≡ true → Every (λ (q : Row). code c ≡ q.code → row ≡ by_row s (code c) q) rs
         → Every (λ (q : Row). code c ≡ q.code → Decided h s (all_checks s q) x) rs
-    each [] named all = tt
-    each (q ∷ qs) named all =
-        let p = both _ _ named in
+    each [] known all = tt
+    each (q ∷ qs) known all =
+        let p = and_parts _ _ known in
         (λ e. decides q p.0 (all.0 e), each qs p.1 all.1)
 
 pub first_failed_is_told : FirstFailedIsTold
@@ -178,7 +172,7 @@ no_field : (h : Sheet) (s m c : List ℕ) → one_of (fate_of h s m c).alarm (0 
 unfolding refused
 no_field h s m c =
     fate_by h s m c (λ f. one_of f.alarm (0 ∷ 8 ∷ 12 ∷ []) ≡ true → f.place ≡ 0) (λ e. refl) (λ e. refl)
-    (λ a place w e. w.whole (sym (ap (λ (b : Bool). b || one_of a (8 ∷ 12 ∷ [])) (ne_eqb a 0 (λ z. let l = w.some in let v : ⊥ = omega arith in v))) ∙ e))
+    (λ a place w e. w.whole (sym (ap (λ (b : Bool). b || one_of a (8 ∷ 12 ∷ [])) (ne_eqb a 0 (λ z. let l = w.some in omega arith))) ∙ e))
     (in_both h s m c (Every _) (z, (z, (z, (z, (z, (z, (z, (z, (z, (z, (z, tt))))))))))) (z, (z, (z, (z, (z, (z, (z, (z, (z, tt))))))))))
   where
     z : {A B C : Type 0} → A → B → C → ◌≡◌ {A = ℕ} 0 0

@@ -6,13 +6,12 @@ use Prim.Native.Nat.{ℕ, zero, suc, ◌+◌, ◌*◌, ◌/◌, ◌≤◌}
 use native.Mathlib.Nat.{suc-mul, div-mul-le_self}
 use native.Mathlib.Omega.{arith}
 use lib.ListN.{length, drop, length-drop}
+use Rattle.std.specs.Prelude.{None, Option, Some}
 use Rattle.octets.specs.Parts.{part}
 use Rattle.octets.specs.Pick.{pick}
 use Rattle.octets.proofs.Pick.{pick_ne, pick_same, pick_both}
 use Rattle.link.specs.Stored.{state_of}
 use Rattle.link.specs.declared.state.LinkState.{LinkState}
-use Rattle.link.specs.declared.stored.Stored.{Stored}
-use Rattle.link.specs.declared.stored.Stored.TheVariants.{State, Invalid}
 use Rattle.sheet.specs.Walk.{verdict_of}
 use Rattle.sheet.specs.declared.walk.Layout.{Layout}
 use Rattle.slave.specs.Answers.{on_state}
@@ -90,11 +89,11 @@ module _ (m₁ m₂ : List ℕ) where
   by_test true p q = p
   by_test false p q = q
 
-  by_held : (h : Stored) {x u : Replayed} {f g : LinkState → Replayed} → Alike m₁ m₂ x u → ((st : LinkState) → Alike m₁ m₂ (f st) (g st))
+  by_held : (h : Option LinkState) {x u : Replayed} {f g : LinkState → Replayed} → Alike m₁ m₂ x u → ((st : LinkState) → Alike m₁ m₂ (f st) (g st))
       → Alike m₁ m₂ (on_state h x f) (on_state h u g)
   unfolding on_state
-  by_held (State st) p q = q st
-  by_held Invalid p q = p
+  by_held (Some st) p q = q st
+  by_held None p q = p
 
   -- a refusal writes nothing
   refused : (answer : Answer) (state : List ℕ) → Alike m₁ m₂ (replayed answer state m₁) (replayed answer state m₂)

@@ -102,12 +102,12 @@ secrets_in_replay h good state m₁ m₂ hidden l k ts w =
     }
 
 -- a place that no agreeing record reached
-unreached : (sheet : List ℕ) → Every IsOctet sheet → (l : ℕ) {k : ℕ} {state memory : List ℕ} {ts front : List Traced} {r : Replayed}
-    → Played sheet l k state memory ts front r → (place : ℕ) → (ReachedIn sheet state memory front place → ⊥) → get_or r.memory place 0 ≡ get_or memory place 0
-unreached sheet o l ended place none = refl
-unreached sheet o l (differed w h) place none = refl
-unreached sheet o l (agreed {state = state} {memory = memory} {t = t} e p) place none =
-    unreached sheet o l p place (λ q. none (inr q)) ∙ (writes_own_octets sheet state memory t.command t.reply place o).1 (λ i q. none (inl (i, q)))
+unreached : (octets : List ℕ) → Every IsOctet octets → (l : ℕ) {k : ℕ} {state memory : List ℕ} {ts front : List Traced} {r : Replayed}
+    → Played octets l k state memory ts front r → (place : ℕ) → (ReachedIn octets state memory front place → ⊥) → get_or r.memory place 0 ≡ get_or memory place 0
+unreached octets o l ended place none = refl
+unreached octets o l (differed w h) place none = refl
+unreached octets o l (agreed {state = state} {memory = memory} {t = t} e p) place none =
+    unreached octets o l p place (λ q. none (inr q)) ∙ (writes_own_octets octets state memory t.command t.reply place o).1 (λ i q. none (inl (i, q)))
 
 pub only_agreeing_reach : OnlyAgreeingReach
 only_agreeing_reach sheet state memory l k ts o w place none = unreached sheet o l (played sheet l k state memory ts w) place none

@@ -8,6 +8,8 @@ use native.Mathlib.Omega.{arith}
 use borrow.Author.Tests.{eqb-true, not-false}
 use lib.Dec.{eqb}
 use lib.ListN.{length}
+use Rattle.std.specs.Prelude.{None, Option, Some, Ok, Err}
+use Rattle.std.proofs.lemmas.Option.{none-some}
 use Rattle.octets.proofs.Pick.{pick_both, pick_cases}
 use Rattle.frame.specs.Fields.{command_of}
 use Rattle.frame.specs.Unnamed.{stray_of}
@@ -15,18 +17,15 @@ use Rattle.link.specs.Steps.{fresh, enabled}
 use Rattle.link.specs.Stored.{fields_of, octets_of, state_of}
 use Rattle.link.specs.Old.{old_state_of}
 use Rattle.link.specs.declared.state.LinkState.{LinkState}
-use Rattle.link.specs.declared.stored.Stored.{Stored}
-use Rattle.link.specs.declared.stored.Stored.TheVariants.{State, Invalid}
 use Rattle.link.proofs.Back.{read_back, read_valid, old_valid}
 use Rattle.link.proofs.Facts.{Facts}
 use Rattle.link.proofs.Keeps.{fresh_valid, enabled_valid}
+use Rattle.sheet.specs.Told.{Verdict, faulty}
 use Rattle.sheet.specs.Walk.{verdict_of}
 use Rattle.sheet.specs.Faults.{number_of}
 use Rattle.sheet.specs.declared.records.Fault.{Fault}
 use Rattle.sheet.specs.declared.records.Fault.TheVariants.{Ended, Unknown, Misplaced, Range, Disorder, Excess, Unmapped}
 use Rattle.sheet.specs.declared.walk.Layout.{Layout}
-use Rattle.sheet.specs.declared.walk.Verdict.{Verdict}
-use Rattle.sheet.specs.declared.walk.Verdict.TheVariants.{Valid, Faulty}
 use Rattle.slave.specs.Answers.{sheet_answer, on_sheet, on_state}
 use Rattle.slave.specs.Calls.{After, reset_of, enable_of, turn_of}
 use Rattle.slave.specs.Exchange.{Left, refusal_of, exchanged, exchange_of}
@@ -46,15 +45,15 @@ use Rattle.machine.proofs.Nexts.{outcome_valid}
 -- what holds of every refusal and of every answer that goes on, holds of the call
 module _ {A : Type 0} (Q : A → Type 0) where
   pub by_sheet : (v : Verdict) (refuse : Answer → A) (go : Layout → A)
-      → ((fault : Fault) (place : ℕ) → Q (refuse (sheet_answer (Faulty fault place)))) → ((lay : Layout) → v ≡ Valid lay → Q (go lay)) → Q (on_sheet v refuse go)
+      → ((fault : Fault) (place : ℕ) → Q (refuse (sheet_answer (faulty fault place)))) → ((lay : Layout) → v ≡ Ok lay → Q (go lay)) → Q (on_sheet v refuse go)
   unfolding on_sheet
-  by_sheet (Valid lay) refuse go q g = g lay refl
-  by_sheet (Faulty fault place) refuse go q g = q fault place
+  by_sheet (Ok lay) refuse go q g = g lay refl
+  by_sheet (Err e) refuse go q g = q e.fault e.place
 
-  pub by_state : (h : Stored) (refuse : A) (go : LinkState → A) → Q refuse → ((st : LinkState) → h ≡ State st → Q (go st)) → Q (on_state h refuse go)
+  pub by_state : (h : Option LinkState) (refuse : A) (go : LinkState → A) → Q refuse → ((st : LinkState) → h ≡ Some st → Q (go st)) → Q (on_state h refuse go)
   unfolding on_state
-  by_state (State st) refuse go q g = g st refl
-  by_state Invalid refuse go q g = q
+  by_state (Some st) refuse go q g = g st refl
+  by_state None refuse go q g = q
 
 -- where a call answers another number than 0, it leaves all as it was
 abbrev pub Untold : List ℕ → List ℕ → List ℕ → Left → Type 0
@@ -93,7 +92,7 @@ module _ (sheet state memory : List ℕ) where
       (λ st h. pick_both (Untold state memory reply) _ (λ n. (refl, refl, refl)) (λ n. absurd (n refl))))
 
 -- a fault's number is one of 11 to 17, and so not 0
-fault_number : (fault : Fault) (place : ℕ) → (11 ≤ (sheet_answer (Faulty fault place)).number) × ((sheet_answer (Faulty fault place)).number ≤ 17)
+fault_number : (fault : Fault) (place : ℕ) → (11 ≤ (sheet_answer (faulty fault place)).number) × ((sheet_answer (faulty fault place)).number ≤ 17)
 unfolding sheet_answer number_of
 fault_number Ended place = omega arith
 fault_number Unknown place = omega arith
@@ -103,7 +102,7 @@ fault_number Disorder place = omega arith
 fault_number Excess place = omega arith
 fault_number Unmapped place = omega arith
 
-fault_counts : (fault : Fault) (place : ℕ) → (sheet_answer (Faulty fault place)).number ≡ 0 → ⊥
+fault_counts : (fault : Fault) (place : ℕ) → (sheet_answer (faulty fault place)).number ≡ 0 → ⊥
 fault_counts fault place e = let n = fault_number fault place in omega arith
 
 -- every number that an exchange tells fits 32 bits
@@ -122,11 +121,11 @@ exchange_small sheet state memory command reply =
 
 -- a state that the machine reads beside the sheet
 abbrev pub Held : List ℕ → List ℕ → Type 0
-Held sheet state = (lay : Layout) × (st : LinkState) × (verdict_of sheet ≡ Valid lay) × (state_of state lay.l lay.tolerance ≡ State st)
+Held sheet state = (lay : Layout) × (st : LinkState) × (verdict_of sheet ≡ Ok lay) × (state_of state lay.l lay.tolerance ≡ Some st)
 
 module _ (sheet : List ℕ) where
   -- a state that was written beside a valid sheet is one
-  written_valid : (lay : Layout) (st : LinkState) → verdict_of sheet ≡ Valid lay → Facts lay.l lay.tolerance st → Held sheet (octets_of st)
+  written_valid : (lay : Layout) (st : LinkState) → verdict_of sheet ≡ Ok lay → Facts lay.l lay.tolerance st → Held sheet (octets_of st)
   written_valid lay st v f = (lay, st, v, read_back st lay.l lay.tolerance f)
 
   pub reset_valid : (state : List ℕ) → (reset_of sheet state).answer.number ≡ 0 → Held sheet (reset_of sheet state).state
@@ -135,7 +134,7 @@ module _ (sheet : List ℕ) where
       by_sheet (λ (a : After). a.answer.number ≡ 0 → Held sheet a.state) (verdict_of sheet) _ _
       (λ fault place e. absurd (fault_counts fault place e))
       (λ lay v.
-      pick_both (λ (a : After). a.answer.number ≡ 0 → Held sheet a.state) _ (λ e. absurd (let k : ⊥ = omega arith in k))
+      pick_both (λ (a : After). a.answer.number ≡ 0 → Held sheet a.state) _ (λ e. absurd (omega arith))
       (λ e. written_valid lay (fresh lay.l) v (fresh_valid lay.l lay.tolerance)))
 
   pub turn_valid : (old state : List ℕ) → (turn_of sheet old state).answer.number ≡ 0 → Held sheet (turn_of sheet old state).state
@@ -144,9 +143,9 @@ module _ (sheet : List ℕ) where
       by_sheet (λ (a : After). a.answer.number ≡ 0 → Held sheet a.state) (verdict_of sheet) _ _
       (λ fault place e. absurd (fault_counts fault place e))
       (λ lay v.
-      by_state (λ (a : After). a.answer.number ≡ 0 → Held sheet a.state) (old_state_of old lay.l) _ _ (λ e. absurd (let k : ⊥ = omega arith in k))
+      by_state (λ (a : After). a.answer.number ≡ 0 → Held sheet a.state) (old_state_of old lay.l) _ _ (λ e. absurd (omega arith))
       (λ st h.
-      pick_both (λ (a : After). a.answer.number ≡ 0 → Held sheet a.state) _ (λ e. absurd (let k : ⊥ = omega arith in k))
+      pick_both (λ (a : After). a.answer.number ≡ 0 → Held sheet a.state) _ (λ e. absurd (omega arith))
       (λ e. written_valid lay st v (old_valid old lay.l lay.tolerance st h).1)))
 
   module _ (state memory : List ℕ) (ok : Held sheet state) where
@@ -199,8 +198,5 @@ module _ (h : Sheet) (w : WellFormed h) where
       (λ (b : valid_state h state ≡ true). b)
       (λ (b : valid_state h state ≡ false).
       let same : lay ≡ layout_for h = same_layout (sym v ∙ complete h w) in
-      absurd (no_state (sym (state_no h state b) ∙ ap (λ (x : Layout). state_of state x.l x.tolerance) (sym same) ∙ e)))
+      absurd (none-some st (sym (state_no h state b) ∙ ap (λ (x : Layout). state_of state x.l x.tolerance) (sym same) ∙ e)))
       (decided (valid_state h state))
-    where
-      no_state : {x : LinkState} → Invalid ≡ State x → ⊥
-      no_state q = let z : ◌≡◌ {A = ℕ} 0 1 = cc in omega arith

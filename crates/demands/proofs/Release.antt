@@ -10,6 +10,7 @@ use native.Mathlib.Omega.{arith}
 use borrow.Author.Tests.{eq-eqb, ne_eqb, eqb-true, not-true}
 use lib.Dec.{eqb}
 use lib.ListN.{length, take, drop, replicate}
+use Rattle.std.proofs.lemmas.Bool.{and_parts}
 use Rattle.octets.proofs.Cases.{eq_or_ne}
 use Rattle.law.specs.Words.{when, Every, one_of, Piece, over}
 use Rattle.law.specs.Sheet.{PduType, enhanced, short, Sheet, WellFormed, is_release2, sheet_octets, room}
@@ -27,7 +28,7 @@ use Rattle.demands.specs.Answered.{Answered, alarm_in, tolerated_in}
 use Rattle.demands.specs.Places.{Holds, all_checks}
 use Rattle.demands.specs.Release.{ruled, Release1, release2, UnnamedAreZero, SameWhereZero, AcceptedIfZero}
 use Rattle.demands.proofs.Exact.{acceptance_is_exact}
-use Rattle.demands.proofs.Fates.{both, done_row}
+use Rattle.demands.proofs.Fates.{done_row}
 use Rattle.demands.proofs.Places.{first_failed_is_told}
 use Rattle.demands.proofs.Stray.{stray_zero, zero_stray}
 
@@ -217,7 +218,7 @@ valid_too h a b s = refl
 pub accepted_if_zero : AcceptedIfZero
 accepted_if_zero h releases one s m c r a = (
   λ ex.
-      let acc = both _ _ ((acceptance_is_exact high (sheet_octets high) s m c r answered).1 ex) in
+      let acc = and_parts _ _ ((acceptance_is_exact high (sheet_octets high) s m c r answered).1 ex) in
       let told = first_failed_is_told high (sheet_octets high) s m c r answered (not-true _ acc.0) in
       let held : Every (λ (q : Row). code c ≡ q.code → Every Holds (all_checks s q)) (table high s m c) = each (table high s m c) (λ q decided e. (decided e).executed_exactly.1 ex) told in
       let zero = held_zero h releases one s m c h.pdu (table low s m c) (table high s m c) (rows_pair h releases one s m c h.pdu) held in

@@ -24,25 +24,25 @@ use Rattle.demands.proofs.Lengths.{reply_keeps}
 pub differs_none : (xs ys : List ℕ) → length xs ≡ length ys → differs_at xs ys ≡ length ys → xs ≡ ys
 unfolding differs_at
 differs_none [] [] e d = refl
-differs_none [] (y ∷ ys) e d = absurd (let k : ⊥ = omega arith in k)
-differs_none (x ∷ xs) [] e d = absurd (let k : ⊥ = omega arith in k)
+differs_none [] (y ∷ ys) e d = absurd (omega arith)
+differs_none (x ∷ xs) [] e d = absurd (omega arith)
 differs_none (x ∷ xs) (y ∷ ys) e d =
     ⊎_elim
     (λ q.
     let d' = sym (pick_yes (suc (differs_at xs ys)) 0 q) ∙ d in
     ap₂ (λ (z : ℕ) (zs : List ℕ). z ∷ zs) (eqb-true x y q) (differs_none xs ys (omega arith) (omega arith)))
-    (λ q. let d' = sym (pick_no (suc (differs_at xs ys)) 0 q) ∙ d in absurd (let k : ⊥ = omega arith in k))
+    (λ q. let d' = sym (pick_no (suc (differs_at xs ys)) 0 q) ∙ d in absurd (omega arith))
     (decided (eqb x y))
 
 -- one that stops: the octets before it are the same
 pub differs_before : (xs ys : List ℕ) (i : ℕ) → i < differs_at xs ys → get_or xs i 0 ≡ get_or ys i 0
 unfolding differs_at
-differs_before [] ys i h = absurd (let k : ⊥ = omega arith in k)
-differs_before (x ∷ xs) [] i h = absurd (let k : ⊥ = omega arith in k)
+differs_before [] ys i h = absurd (omega arith)
+differs_before (x ∷ xs) [] i h = absurd (omega arith)
 differs_before (x ∷ xs) (y ∷ ys) i h =
     ⊎_elim
     (λ q. inner i (λ j. differs_before xs ys j) (eqb-true x y q) (subst (λ (n : ℕ). i < n) (pick_yes (suc (differs_at xs ys)) 0 q) h))
-    (λ q. let h' = subst (λ (n : ℕ). i < n) (pick_no (suc (differs_at xs ys)) 0 q) h in absurd (let k : ⊥ = omega arith in k))
+    (λ q. let h' = subst (λ (n : ℕ). i < n) (pick_no (suc (differs_at xs ys)) 0 q) h in absurd (omega arith))
     (decided (eqb x y))
   where
     inner : (i : ℕ) → ((j : ℕ) → j < differs_at xs ys → get_or xs j 0 ≡ get_or ys j 0) → x ≡ y → i < suc (differs_at xs ys)
@@ -54,8 +54,8 @@ differs_before (x ∷ xs) (y ∷ ys) i h =
 pub differs_there : (xs ys : List ℕ) → length xs ≡ length ys → differs_at xs ys < length ys
     → get_or xs (differs_at xs ys) 0 ≡ get_or ys (differs_at xs ys) 0 → ⊥
 unfolding differs_at
-differs_there [] ys e h = absurd (let k : ⊥ = omega arith in k)
-differs_there (x ∷ xs) [] e h = absurd (let k : ⊥ = omega arith in k)
+differs_there [] ys e h = absurd (omega arith)
+differs_there (x ∷ xs) [] e h = absurd (omega arith)
 differs_there (x ∷ xs) (y ∷ ys) e h =
     ⊎_elim
     (λ q same.
@@ -82,7 +82,7 @@ module _ (sheet state memory : List ℕ) (l k : ℕ) (t : Traced) (ts : List Tra
   pub play_over : place < l → play_of sheet l k state memory (t ∷ ts) ≡ replayed (told 34 (64 * k + place)) state memory
   unfolding play_of on_step stepped_of
   play_over h =
-      let q = pick_no _ _ (ne_eqb place l (λ e. let z : ⊥ = omega arith in z)) in
+      let q = pick_no _ _ (ne_eqb place l (λ e. omega arith)) in
       ap (λ x. on_step l k x (λ s m. play_of sheet l (suc k) s m ts)) q ∙ pick_lt _ _ h
 
 -- a replay as what happened at each of its records: the agreeing ones, and what it left

@@ -8,23 +8,26 @@ use mathlib.Core.Path.{◌≡◌, refl, sym, ap, ap₂, subst, ◌∙◌}
 use mathlib.Core.List.{List, [], ◌∷◌, map}
 use Prim.Native.Nat.{ℕ, zero, suc, ◌*◌}
 use native.Mathlib.Omega.{arith}
-use lib.ListN.{length, get_or, drop}
+use lib.ListN.{length, get_or}
+use Rattle.std.specs.Prelude.{None, Option, Some}
 use Rattle.octets.proofs.Cases.{eq_or_ne}
 use Rattle.octets.proofs.Pick.{pick_both, pick_same, pick_differ, pick_eq, pick_ne}
 use Rattle.law.specs.Sheet.{Sheet, WellFormed, allows, sheet_octets, room}
 use Rattle.law.proofs.Complete.{complete}
 use Rattle.law.proofs.OneSheet.{one_sheet}
 use Rattle.link.specs.Stored.{state_of}
-use Rattle.link.specs.declared.stored.Stored.{Stored}
-use Rattle.link.specs.declared.stored.Stored.TheVariants.{State, Invalid}
+use Rattle.link.specs.declared.state.LinkState.{LinkState}
 use Rattle.sheet.specs.Walk.{verdict_of}
 use Rattle.slave.specs.Answers.{told}
 use Rattle.slave.specs.Calls.{reset_of, turn_of}
 use Rattle.slave.specs.Exchange.{exchange_of}
 use Rattle.slave.specs.Wanted.{Stepped, stepped_of}
 use Rattle.slave.proofs.Order.{on_valid, on_invalid, on_state_lem}
+use Rattle.replay.specs.Answers.{fault_number}
 use Rattle.replay.specs.Replay.{Replayed, replayed, on_step, play_of, replay_of}
-use Rattle.replay.specs.Trace.{Traced, record_size, fault_of, record_at, formed, form_from, checked_form, traced_of}
+use Rattle.replay.specs.Trace.{Traced, record_size, record_at, formed, form_from, checked_form, traced_of}
+use Rattle.replay.specs.declared.answers.Fault.TheVariants.{Unknown, OtherLength, Cut}
+use Rattle.replay.specs.declared.answers.Fault.{Fault}
 use Rattle.replay.specs.declared.form.Record.{Record}
 use Rattle.slave.specs.declared.answers.Answer.{Answer}
 use Rattle.demands.specs.Hidden.{Readable, Seen, seen, Demand3}
@@ -103,22 +106,21 @@ memory_keeps_its_length sheet state memory (Replay trace) =
     replay_keeps sheet (λ s m. length m ≡ length memory) (λ s m command reply q. memory_keeps sheet s m command reply ∙ q) state memory trace refl
 
 -- no fault of a trace's form has the number of a difference
-fault_no_34 : (l : ℕ) (rest : List ℕ) → fault_of l rest ≡ 34 → ⊥
-unfolding fault_of
-fault_no_34 l rest =
-    let N : ℕ → Type 0 = λ n. n ≡ 34 → ⊥ in
-    pick_both N _ (λ e. let k : ⊥ = omega arith in k) (pick_both N _ (λ e. let k : ⊥ = omega arith in k) (pick_both N _ (λ e. let k : ⊥ = omega arith in k) (λ e. let k : ⊥ = omega arith in k)))
+fault_no_34 : (fault : Fault) → fault_number fault ≡ 34 → ⊥
+fault_no_34 Unknown e = omega arith
+fault_no_34 OtherLength e = omega arith
+fault_no_34 Cut e = omega arith
 
 form_no_34 : (l : ℕ) (trace : List ℕ) (k n : ℕ) → (form_from l trace k n).number ≡ 34 → ⊥
 unfolding form_from formed record_at
-form_no_34 l trace k zero = λ e. let z : ⊥ = omega arith in z
+form_no_34 l trace k zero = λ e. omega arith
 form_no_34 l trace k (suc n) =
     let N : Record → Type 0 = λ r. (formed r (k * record_size l) (form_from l trace (suc k) n)).number ≡ 34 → ⊥ in
-    pick_both N _ (λ e. let z : ⊥ = omega arith in z) (pick_both N _ (form_no_34 l trace (suc k) n) (fault_no_34 l (drop (k * record_size l) trace)))
+    pick_both N _ (λ e. omega arith) (pick_both N _ (form_no_34 l trace (suc k) n) (fault_no_34 _))
 
 checked_no_34 : (l : ℕ) (trace : List ℕ) → (checked_form l trace).number ≡ 34 → ⊥
 unfolding checked_form
-checked_no_34 l trace = pick_both (λ (t : Answer). t.number ≡ 34 → ⊥) _ (λ e. let k : ⊥ = omega arith in k) (form_no_34 l trace 0 (suc (length trace)))
+checked_no_34 l trace = pick_both (λ (t : Answer). t.number ≡ 34 → ⊥) _ (λ e. omega arith) (form_no_34 l trace 0 (suc (length trace)))
 
 -- a replay that plays its records on one memory plays them on any of the same length
 module _ (h : Sheet) (w : WellFormed h) (state m₁ m₂ trace : List ℕ) (w₁ : length m₁ ≡ room h.regions) (w₂ : length m₂ ≡ room h.regions) where
@@ -136,13 +138,13 @@ module _ (h : Sheet) (w : WellFormed h) (state m₁ m₂ trace : List ℕ) (w₁
   unfolding replay_of
   plays_too p = go (state_of state h.l (allows h)) refl
     where
-      go : (s : Stored) → state_of state h.l (allows h) ≡ s → replay_of (sheet_octets h) state m₂ trace ≡ play_of (sheet_octets h) h.l 0 state m₂ ts
-      go Invalid s =
-          absurd (refuses (told 1 0) (on_valid _ _ _ _ (complete h w) ∙ on_invalid _ _ _ s) (λ e. let k : ⊥ = omega arith in k) (λ e. let k : ⊥ = omega arith in k) p)
-      go (State st) s =
+      go : (s : Option LinkState) → state_of state h.l (allows h) ≡ s → replay_of (sheet_octets h) state m₂ trace ≡ play_of (sheet_octets h) h.l 0 state m₂ ts
+      go None s =
+          absurd (refuses (told 1 0) (on_valid _ _ _ _ (complete h w) ∙ on_invalid _ _ _ s) (λ e. omega arith) (λ e. omega arith) p)
+      go (Some st) s =
           ⊎_elim
           (λ (z : st.link ≡ 0).
-          absurd (refuses (told 5 0) (on_valid _ _ _ _ (complete h w) ∙ on_state_lem _ _ _ _ s ∙ pick_same _ _ w₁ ∙ pick_eq _ _ z) (λ e. let k : ⊥ = omega arith in k) (λ e. let k : ⊥ = omega arith in k) p))
+          absurd (refuses (told 5 0) (on_valid _ _ _ _ (complete h w) ∙ on_state_lem _ _ _ _ s ∙ pick_same _ _ w₁ ∙ pick_eq _ _ z) (λ e. omega arith) (λ e. omega arith) p))
           (λ (z : st.link ≡ 0 → ⊥).
           ⊎_elim
           (λ (f : (checked_form h.l trace).number ≡ 0). on_valid _ _ _ _ (complete h w) ∙ on_state_lem _ _ _ _ s ∙ pick_same _ _ w₂ ∙ pick_ne _ _ z ∙ pick_same _ _ f)

@@ -128,9 +128,6 @@ module _ (h : Sheet) (s m c d : List ℕ) (first : is_release2 h ≡ false) (six
       subst (λ (f : Fate). Alike f (judged s k enhanceds)) (sym e₁)
       (subst (λ (f : Fate). Alike (checked s (all_checks s r) r) f) (sym e₂) (by_checks s (all_checks s r) ls more r q same-checks all does))
 
-  never : {A : Type 0} → ◌≡◌ {A = Bool} false true → A
-  never e = absurd (let z : ◌≡◌ {A = ℕ} 0 1 = cc in let v : ⊥ = omega arith in v)
-
   -- the octets that a write stores: as many as the parameter has, which is the command's size
   written : code c ≡ 0x02 → Every Holds (nth shorts 2).checks → (nth shorts 2).stores ≡ (nth enhanceds 2).stores
   written e all =
@@ -170,8 +167,8 @@ module _ (h : Sheet) (s m c d : List ℕ) (first : is_release2 h ≡ false) (six
       (λ e b. row_alike 0x0D (nth shorts 6) (nth enhanceds 6) (all_checks s (nth enhanceds 6)) [] refl refl (λ i. check (one_of (link s) (nth shorts 6).links) 12 0 ∷ check (eqb (z 6 i) 0) 9 (z 6 i) ∷ []) tt (λ all. record { changes = refl; stores = refl }))
       (λ e b. row_alike 0x0E (nth shorts 7) (nth enhanceds 7) (check (one_of (link s) (nth enhanceds 7).links) 12 0 ∷ take 3 (nth enhanceds 7).checks ++ drop 4 (nth enhanceds 7).checks) [] refl (profiled e) (λ i. check (one_of (link s) (nth shorts 7).links) 12 0 ∷ con_checks h (sym (same.connections e).0 i) (sym (same.connections e).1 i) (sym (same.connections e).2 i) (z 7 i)) tt (λ all. record { changes = λ i. con_changes ((same.connections e).1 i) ((same.connections e).2 i); stores = refl }))
       (λ e b. row_alike 0x0F (nth shorts 8) (nth enhanceds 8) (all_checks s (nth enhanceds 8)) [] refl refl (λ i. check (one_of (link s) (nth shorts 8).links) 12 0 ∷ check (eqb (z 8 i) 0) 9 (z 8 i) ∷ []) tt (λ all. record { changes = refl; stores = refl }))
-      (λ e b. never (sym b))
-      (λ e b. never (sym b))
+      (λ e b. cc)
+      (λ e b. cc)
       (λ n z0 z1 z2 z3 z4 z5 z6 z7 z8 z9 z10 e b.
       subst (λ (f : Fate). Alike f (judged s n enhanceds)) (sym (none_judges s n shorts (z0, (z1, (z2, (z3, (z4, (z5, (z6, (z7, (z8, tt)))))))))))
       (subst (λ (f : Fate). Alike (refused s 8 0) f) (sym (none_judges s n enhanceds (z0, (z1, (z2, (z3, (z4, (z5, (z6, (z7, (z8, (z9, (z10, tt))))))))))))) (itself (refused s 8 0))))

@@ -1,5 +1,5 @@
 -- Request 7: the short type's replies, its codes, and no profile.
-use mathlib.Core.Bool.{Bool, true, false}
+use mathlib.Core.Bool.{Bool, true, false, false≢true}
 use mathlib.Core.Path.{◌≡◌, refl, sym, ap, subst, ◌∙◌}
 use mathlib.Core.List.{List, [], ◌∷◌}
 use Prim.Native.Nat.{ℕ, ◌+◌, ◌*◌, ◌%◌, ◌<◌}
@@ -64,24 +64,21 @@ module _ (h : Sheet) (sheet s m c r : List ℕ) (is_short : h.pdu ≡ short) (a 
     other_code : (k : ℕ) → (one_of k (0x1D ∷ 0x1E ∷ []) ≡ true → ⊥) → code c ≡ k → ⊥
     other_code k z e = z (ap (λ (n : ℕ). one_of n (0x1D ∷ 0x1E ∷ [])) (sym e) ∙ memory-code)
 
-    never : {A : Type 0} → ◌≡◌ {A = Bool} false true → A
-    never e = absurd (let z : ◌≡◌ {A = ℕ} 0 1 = cc in let v : ⊥ = omega arith in v)
-
     none : Every (λ (q : Row). code c ≡ q.code → ⊥) (table h s m c)
     none =
         subst (λ (p : PduType). Every (λ (q : Row). code c ≡ q.code → ⊥) (table_of h s m c p)) (sym is_short) (
-          other_code 0x00 never,
+          other_code 0x00 false≢true,
           (
-            other_code 0x01 never,
+            other_code 0x01 false≢true,
             (
-              other_code 0x02 never,
+              other_code 0x02 false≢true,
               (
-                other_code 0x03 never,
+                other_code 0x03 false≢true,
                 (
-                  other_code 0x05 never,
+                  other_code 0x05 false≢true,
                   (
-                    other_code 0x06 never,
-                    (other_code 0x0D never, (other_code 0x0E never, (other_code 0x0F never, tt))),
+                    other_code 0x06 false≢true,
+                    (other_code 0x0D false≢true, (other_code 0x0E false≢true, (other_code 0x0F false≢true, tt))),
                   ),
                 ),
               ),
@@ -96,7 +93,7 @@ module _ (h : Sheet) (sheet s m c r : List ℕ) (is_short : h.pdu ≡ short) (a 
     not_accepted : (b : Bool) → accepted h s m c ≡ b → accepted h s m c ≡ false
     not_accepted true e =
         let z = ((acceptance_is_exact h sheet s m c r a).0 e).no_alarm in
-        absurd (let k = unknown.0 in let w : ⊥ = omega (arith, z, k) in w)
+        absurd (let k = unknown.0 in omega (arith, z, k))
     not_accepted false e = e
 
     pub keeps : x.memory ≡ m

@@ -12,6 +12,7 @@ use native.Mathlib.Omega.{arith}
 use borrow.Author.Tests.{eq-eqb, eqb-true}
 use lib.Dec.{eqb}
 use lib.ListN.{length, get_or}
+use Rattle.std.proofs.lemmas.Bool.{true≢false, or_left, or_right}
 use Rattle.octets.proofs.Cases.{decided}
 use Rattle.law.specs.Words.{when}
 use Rattle.law.specs.Sheet.{PduType, enhanced, short}
@@ -21,10 +22,6 @@ use Rattle.demands.specs.Release.{ZeroUnlessNamed, FirstStray}
 
 shift : (k j : ℕ) → k + suc j ≡ suc k + j
 shift k j = omega arith
-
-or_right : (a : Bool) → a || true ≡ true
-or_right true = refl
-or_right false = refl
 
 module _ (t : PduType) (ns : List Run) where
   -- octet j of octets numbered from k on may be what it is
@@ -37,8 +34,8 @@ module _ (t : PduType) (ns : List Run) where
   may_pass : (k x : ℕ) → (is_named ns k ≡ false → unnamed_bits t k x ≡ 0) → passes k x ≡ true
   may_pass k x z =
       ⊎_elim
-      (λ (e : is_named ns k ≡ true). ap (λ (b : Bool). b || eqb (unnamed_bits t k x) 0) e)
-      (λ (e : is_named ns k ≡ false). ap (λ (b : Bool). is_named ns k || b) (eq-eqb _ 0 (z e)) ∙ or_right (is_named ns k))
+      (λ (e : is_named ns k ≡ true). or_left _ (eqb (unnamed_bits t k x) 0) e)
+      (λ (e : is_named ns k ≡ false). or_right (is_named ns k) _ (eq-eqb _ 0 (z e)))
       (decided (is_named ns k))
 
   pass_may : (k x : ℕ) → passes k x ≡ true → is_named ns k ≡ false → unnamed_bits t k x ≡ 0
@@ -47,12 +44,9 @@ module _ (t : PduType) (ns : List Run) where
   fails : (k x : ℕ) → passes k x ≡ false → (is_named ns k ≡ false) × (unnamed_bits t k x ≡ 0 → ⊥)
   fails k x f =
       ⊎_elim
-      (λ (e : is_named ns k ≡ true). absurd (never (sym (ap (λ (b : Bool). b || eqb (unnamed_bits t k x) 0) e) ∙ f)))
-      (λ (e : is_named ns k ≡ false). (e, λ z. never (sym (may_pass k x (λ n. z)) ∙ f)))
+      (λ (e : is_named ns k ≡ true). absurd (true≢false (sym (or_left _ (eqb (unnamed_bits t k x) 0) e) ∙ f)))
+      (λ (e : is_named ns k ≡ false). (e, λ z. true≢false (sym (may_pass k x (λ n. z)) ∙ f)))
       (decided (is_named ns k))
-    where
-      never : ◌≡◌ {A = Bool} true false → ⊥
-      never e = let z : ◌≡◌ {A = ℕ} 0 1 = cc in let w : ⊥ = omega arith in w
 
   later : (k : ℕ) (x : ℕ) (xs : List ℕ) (j : ℕ) → MayBe k (x ∷ xs) (suc j) → MayBe (suc k) xs j
   later k x xs j z = subst (λ (i : ℕ). is_named ns i ≡ false → unnamed_bits t i (get_or xs j 0) ≡ 0) (shift k j) z
@@ -84,7 +78,7 @@ module _ (t : PduType) (ns : List Run) where
   -- there is none, or the first
   found_from : (k : ℕ) (xs : List ℕ) → ((stray_from t ns k xs ≡ 0) × ((j : ℕ) → j < length xs → MayBe k xs j)) ⊎ Found k xs (stray_from t ns k xs)
   unfolding stray_from
-  found_from k [] = inl (refl, λ j l. absurd (let w : ⊥ = omega arith in w))
+  found_from k [] = inl (refl, λ j l. absurd (omega arith))
   found_from k (x ∷ xs) =
       ⊎_elim
       (λ (p : passes k x ≡ true). behind p (found_from (suc k) xs))
@@ -96,7 +90,7 @@ module _ (t : PduType) (ns : List Run) where
         inside = omega arith;
         not_named = f.0;
         not_zero = f.1;
-        before = λ j l. absurd (let w : ⊥ = omega arith in w);
+        before = λ j l. absurd (omega arith);
       })))
       (decided (passes k x))
     where
@@ -139,10 +133,7 @@ module _ (t : PduType) (named : List Run) (c : List ℕ) where
 
   -- what is found is not the code
   not_code : Found t (head_named t ++ named) 0 c (stray t named c) → stray t named c ≡ 0 → ⊥
-  not_code f z = let e : ◌≡◌ {A = Bool} true false = sym (code_named t named) ∙ sym (ap (is_named (head_named t ++ named)) z) ∙ f.not_named in never e
-    where
-      never : ◌≡◌ {A = Bool} true false → ⊥
-      never e = let z : ◌≡◌ {A = ℕ} 0 1 = cc in let w : ⊥ = omega arith in w
+  not_code f z = true≢false (sym (code_named t named) ∙ sym (ap (is_named (head_named t ++ named)) z) ∙ f.not_named)
 
   pub zero_stray : stray t named c ≡ 0 → (k : ℕ) → k < length c → ZeroUnlessNamed t named c k
   zero_stray z =

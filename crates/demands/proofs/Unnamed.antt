@@ -5,11 +5,12 @@ use mathlib.Core.Logic.{⊎_elim}
 use mathlib.Core.Bool.{Bool, true, false, not, ◌&&◌}
 use mathlib.Core.Path.{◌≡◌, refl, sym, ap, subst, ◌∙◌}
 use mathlib.Core.List.{List, [], ◌∷◌, ◌++◌}
-use Prim.Native.Nat.{ℕ, zero, suc, ◌+◌, ◌*◌, ◌/◌, ◌%◌, ◌≤◌, ◌<◌}
+use Prim.Native.Nat.{ℕ, ◌+◌, ◌*◌, ◌/◌, ◌%◌, ◌≤◌, ◌<◌}
 use native.Mathlib.Omega.{arith}
 use lib.Dec.{eqb}
 use lib.ListN.{length, get_or, take, drop, replicate}
 use lib.Seq.{ext_get_or}
+use Rattle.std.proofs.lemmas.List.{length-take, length-drop, get_or-take, get_or-drop}
 use Rattle.octets.proofs.Cases.{lt_or_le}
 use Rattle.law.specs.Words.{when, one_of, Piece, piece, over}
 use Rattle.law.specs.Sheet.{PduType, short, Parameter, Sheet, GoodLength, is_release2}
@@ -30,29 +31,21 @@ use Rattle.demands.proofs.SameFields.{prm_checks, id_checks, con_checks, con_cha
 
 -- lists that have the same octets from one place up to another
 take_same : (n : ℕ) (c d : List ℕ) → length c ≡ length d → ((k : ℕ) → k < n → get_or c k 0 ≡ get_or d k 0) → take n c ≡ take n d
-take_same zero c d e all = refl
-take_same (suc n) [] [] e all = refl
-take_same (suc n) [] (y ∷ ys) e all = absurd (let w : ⊥ = omega arith in w)
-take_same (suc n) (x ∷ xs) [] e all = absurd (let w : ⊥ = omega arith in w)
-take_same (suc n) (x ∷ xs) (y ∷ ys) e all =
-    let first : x ≡ y = all 0 (omega arith) in
-    let rest = take_same n xs ys (omega arith) (λ k u. all (suc k) (omega arith)) in
-    λ i. first i ∷ rest i
+take_same n c d e all =
+    ext_get_or 0 (take n c) (take n d) (simp length-take (omega arith)) (λ k u.
+    let l : k < n = omega (arith, length-take n c) in
+    get_or-take n c k 0 l ∙ all k l ∙ sym (get_or-take n d k 0 l))
 
 part_same : (from n : ℕ) (c d : List ℕ) → length c ≡ length d → ((k : ℕ) → from ≤ k → k < from + n → get_or c k 0 ≡ get_or d k 0)
     → take n (drop from c) ≡ take n (drop from d)
-part_same zero n c d e all = take_same n c d e (λ k u. all k (omega arith) (omega arith))
-part_same (suc from) n [] [] e all = refl
-part_same (suc from) n [] (y ∷ ys) e all = absurd (let w : ⊥ = omega arith in w)
-part_same (suc from) n (x ∷ xs) [] e all = absurd (let w : ⊥ = omega arith in w)
-part_same (suc from) n (x ∷ xs) (y ∷ ys) e all = part_same from n xs ys (omega arith) (λ k l u. all (suc k) (omega arith) (omega arith))
+part_same from n c d e all =
+    take_same n (drop from c) (drop from d) (simp length-drop (omega arith)) (λ k u.
+    get_or-drop from c k 0 ∙ all (from + k) (omega arith) (omega arith) ∙ sym (get_or-drop from d k 0))
 
 drop_same : (from : ℕ) (c d : List ℕ) → length c ≡ length d → ((k : ℕ) → from ≤ k → k < length c → get_or c k 0 ≡ get_or d k 0) → drop from c ≡ drop from d
-drop_same zero c d e all = ext_get_or 0 c d e (λ k u. all k (omega arith) u)
-drop_same (suc from) [] [] e all = refl
-drop_same (suc from) [] (y ∷ ys) e all = absurd (let w : ⊥ = omega arith in w)
-drop_same (suc from) (x ∷ xs) [] e all = absurd (let w : ⊥ = omega arith in w)
-drop_same (suc from) (x ∷ xs) (y ∷ ys) e all = drop_same from xs ys (omega arith) (λ k l u. all (suc k) (omega arith) (omega arith))
+drop_same from c d e all =
+    ext_get_or 0 (drop from c) (drop from d) (simp length-drop (omega arith)) (λ k u.
+    get_or-drop from c k 0 ∙ all (from + k) (omega arith) (omega (arith, length-drop from c)) ∙ sym (get_or-drop from d k 0))
 
 module _ (h : Sheet) (s m c d : List ℕ) (release : is_release2 h ≡ false) (sixteen : length c ≡ 16) (same : SameNamed c d) where
   abbrev first : List Row

@@ -2,15 +2,16 @@
 --     known_after, last_after, rsn_after, link-after     the watchdog's fields behind an exchange that begins and ends in link 3
 --     passes, asked                                      when check 1 does not fail, and what then holds
 --     row_keeps                                          no command but DISCONNECT leaves link 3
-use mathlib.Core.Bool.{Bool, true, false, not, and-eq-true_iff, true≢false, ◌&&◌, ◌||◌}
+use mathlib.Core.Bool.{Bool, true, false, not, and-eq-true_iff, true≢false, ◌&&◌, or-false}
 use mathlib.Core.Logic.{inl, inr, ⊎_elim}
-use mathlib.Core.Path.{◌≡◌, refl, sym, ap, ap₂, ◌∙◌}
+use mathlib.Core.Path.{◌≡◌, sym, ap, ap₂, ◌∙◌}
 use mathlib.Core.List.{List, [], ◌∷◌}
 use Prim.Native.Nat.{ℕ, ◌+◌, ◌*◌, ◌/◌, ◌%◌, ◌<◌}
 use native.Mathlib.Omega.{arith}
-use borrow.Author.Tests.{eqb-true, eq-eqb}
+use borrow.Author.Tests.{eqb-true, eq-eqb, not-false}
 use lib.Dec.{eqb, ltb}
 use lib.ListN.{length, get_or}
+use Rattle.std.proofs.lemmas.Bool.{and_left, and_right}
 use Rattle.octets.proofs.Cases.{decided}
 use Rattle.law.specs.Words.{Every, when, one_of, Piece, piece, laid, over}
 use Rattle.law.specs.Sheet.{Sheet, allows}
@@ -56,23 +57,10 @@ module _ (s : List ℕ) (sent : ℕ) (changes : List Piece) (eleven : length s �
 
 -- check 1, as the law has it
 pub passes : (a b : Bool) {c : Bool} → c ≡ true → a && (b && not c) ≡ false
-passes a b e = ap (λ (c : Bool). a && (b && not c)) e ∙ none a b
-  where
-    none : (a b : Bool) → a && (b && false) ≡ false
-    none true true = refl
-    none true false = refl
-    none false b = refl
+passes a b e = and_right a _ (and_right b _ (ap not e))
 
 unasked : (a c : Bool) {b : Bool} → b ≡ false → a && (b && c) ≡ false
-unasked a c e = ap (λ (b : Bool). a && (b && c)) e ∙ none a
-  where
-    none : (a : Bool) → a && false ≡ false
-    none true = refl
-    none false = refl
-
-back : (b : Bool) → not b ≡ false → b ≡ true
-back true e = refl
-back false e = sym e
+unasked a c e = and_right a _ (and_left _ c e)
 
 -- where it does not fail and MN is known, MN follows and SN is RSN
 pub asked : (h : Sheet) (s c : List ℕ) → Asks s → missed h s c ≡ false → (mn h c ≡ (last_mn s + 1) % 16) × (sn h c ≡ rsn s)
@@ -80,7 +68,7 @@ asked h s c w e =
     let b = eqb (mn h c) ((last_mn s + 1) % 16) in
     let d = eqb (sn h c) (rsn s) in
     let left : missed h s c ≡ not (b && d) = ap₂ (λ (x y : Bool). x && (y && not (b && d))) (eq-eqb (link s) 3 w.synchronous) (eq-eqb (mn_known s) 1 w.known) in
-    let p = (and-eq-true_iff b d).0 (back (b && d) (sym left ∙ e)) in
+    let p = (and-eq-true_iff b d).0 (not-false (b && d) (sym left ∙ e)) in
     (eqb-true (mn h c) ((last_mn s + 1) % 16) p.0, eqb-true (sn h c) (rsn s) p.1)
 
 module _ (h : Sheet) (s m c : List ℕ) where
@@ -100,13 +88,9 @@ module _ (h : Sheet) (s m c : List ℕ) where
       still : {A B C : Type 0} → A → B → C → link s ≡ 3
       still e a b = three
 
-      first : (b : Bool) → b || false ≡ true → b ≡ true
-      first true e = refl
-      first false e = e
-
       -- SYNC_SET and CONNECT are not allowed in link 3
       away : {A B C : Type 0} (only : ℕ) → only < 3 → A → one_of (link s) (only ∷ []) ≡ true → B → C
-      away only l e a b = let k = eqb-true (link s) only (first (eqb (link s) only) a) in absurd (let w : ⊥ = omega arith in w)
+      away only l e a b = let k = eqb-true (link s) only (sym (or-false (eqb (link s) only)) ∙ a) in absurd (omega arith)
 
 -- an answered exchange
 module _ (h : Sheet) (sheet s m c r : List ℕ) (a : Answered h sheet s m c r) where
@@ -178,20 +162,17 @@ missed_it h sheet s m c r a f =
     f.shows))
     (decided (missed h s c))
 
-never : {A : Type 0} → ◌≡◌ {A = Bool} true false → A
-never e = absurd (let z : ◌≡◌ {A = ℕ} 0 1 = cc in let v : ⊥ = omega arith in v)
-
 pub both_are_asked : BothAreAsked
 both_are_asked = record {
   failure_of_either = λ h sheet s m c r a w. (
     λ f both.
         let holds = ap₂ ◌&&◌ (eq-eqb (mn h c) ((last_mn s + 1) % 16) both.0) (eq-eqb (sn h c) (rsn s) both.1) in
-        never (sym (missed_it h sheet s m c r a f) ∙ passes (eqb (link s) 3) (eqb (mn_known s) 1) holds),
+        true≢false (sym (missed_it h sheet s m c r a f) ∙ passes (eqb (link s) 3) (eqb (mn_known s) 1) holds),
     λ either. ⊎_elim (λ (q : missed h s c ≡ true). falls h sheet s m c r a q)
         (λ (q : missed h s c ≡ false). absurd (either (asked h s c w q))) (decided (missed h s c)),
   );
   not_known = λ h sheet s m c r a unknown f.
-      never (sym (missed_it h sheet s m c r a f) ∙ unasked (eqb (link s) 3) _ (ap (λ (n : ℕ). eqb n 1) unknown));
+      true≢false (sym (missed_it h sheet s m c r a f) ∙ unasked (eqb (link s) 3) _ (ap (λ (n : ℕ). eqb n 1) unknown));
 }
 
 pub same_sn_fails : SameSnFails
@@ -206,7 +187,7 @@ same_sn_fails h sheet s m c₁ r₁ c₂ r₂ a₁ w stays a₂ e =
     let k₂ = (asked h t c₂ next.watched p).1 in
     let n = rsn_next h sheet s m c₁ r₁ a₁ w.synchronous next.watched.synchronous in
     let same : rsn s ≡ (rsn s + 1) % 16 = sym k₁ ∙ e ∙ k₂ ∙ n in
-    absurd (let w : ⊥ = omega (arith, same) in w))
+    absurd (omega (arith, same)))
     (decided (missed h t c₂)))
     (decided (missed h s c₁))
 

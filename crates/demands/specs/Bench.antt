@@ -1,11 +1,10 @@
 -- Document 01, "On the bench": sheet P, and the eleven cases. Each case says what is lent to an exchange, and all that must come of it: answer, state,
 -- memory and reply, to the octet. The reply lent is sixteen octets of EE hex, so that an old octet would be seen. Octet 5 of the memory commands goes
 -- by 002 (docs/DECISIONS.md): two-octet elements are 21 hex, and a four-octet element is 31 hex.
-use Rattle.std.specs.Prelude.{ℕ, List, [], ◌∷◌, ◌++◌, map, ◌≡◌, take, replicate}
+use Rattle.std.specs.Prelude.{ℕ, List, [], ◌∷◌, ◌++◌, map, ◌≡◌, take, replicate, Ok}
 use Rattle.sheet.specs.Walk.{verdict_of}
 use Rattle.sheet.specs.declared.walk.Form.TheVariants.{Enhanced}
 use Rattle.sheet.specs.declared.walk.Layout.{Layout}
-use Rattle.sheet.specs.declared.walk.Verdict.TheVariants.{Valid}
 use Rattle.slave.specs.Answers.{told}
 use Rattle.slave.specs.Exchange.{Left, left, exchange_of}
 
@@ -247,4 +246,4 @@ BenchCases = map ran cases ≡ map (λ (k : Case). k.want) cases
 
 -- "sheet P is valid", with its layout
 abbrev pub SheetPIsValid : Type 0
-SheetPIsValid = verdict_of sheet_p ≡ Valid layout_p
+SheetPIsValid = verdict_of sheet_p ≡ Ok layout_p

@@ -1,10 +1,9 @@
 -- Document 02, request 1: "Bits 6 and 7 of command octet 2 shall come back in those bits of reply octet 2, in every built reply." Document 01: "octets 2 and 3
 -- control, ignored".
-use Rattle.std.specs.Prelude.{ℕ, ◌/◌, ◌%◌, List, ◌≡◌, length, get_or}
+use Rattle.std.specs.Prelude.{ℕ, ◌/◌, ◌%◌, List, ◌≡◌, length, get_or, Ok}
 use Rattle.law.specs.Sheet.{PduType, enhanced, short, Sheet}
 use Rattle.sheet.specs.Walk.{verdict_of}
 use Rattle.sheet.specs.declared.walk.Layout.{Layout}
-use Rattle.sheet.specs.declared.walk.Verdict.TheVariants.{Valid}
 use Rattle.slave.specs.Exchange.{Left, exchange_of}
 use Rattle.demands.specs.Answered.{Answered}
 
@@ -39,7 +38,7 @@ pub record OnlyIdentityDiffers (x y : Left) : Type 0 where
 
 -- a sheet that is refused, or picks release 1 of the drive rules (request 13)
 abbrev pub NotRelease2 : List ℕ → Type 0
-NotRelease2 sheet = (lay : Layout) → verdict_of sheet ≡ Valid lay → lay.release ≡ 2 → ⊥
+NotRelease2 sheet = (lay : Layout) → verdict_of sheet ≡ Ok lay → lay.release ≡ 2 → ⊥
 
 -- for every such sheet, and every state, memory and reply that are lent; release 2 asks those octets to be zero, but for the two bits
 abbrev pub ControlIsIgnored : Type 0

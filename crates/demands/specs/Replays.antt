@@ -1,12 +1,10 @@
 -- Document 02, request 6: what a replay's answer, state and memory mean. Nothing here is of the code, which promises the defined replay to the octet.
-use Rattle.std.specs.Prelude.{ℕ, ◌+◌, ◌*◌, ◌/◌, ◌%◌, ◌≤◌, ◌<◌, List, [], ◌∷◌, ◌++◌, map, ◌≡◌, eqb, length, get_or}
+use Rattle.std.specs.Prelude.{ℕ, ◌+◌, ◌*◌, ◌/◌, ◌%◌, ◌≤◌, ◌<◌, List, [], ◌∷◌, ◌++◌, map, ◌≡◌, eqb, length, get_or, Some, Ok}
 use Rattle.octets.specs.Pick.{pick}
 use Rattle.link.specs.Stored.{state_of}
 use Rattle.link.specs.declared.state.LinkState.{LinkState}
-use Rattle.link.specs.declared.stored.Stored.TheVariants.{State}
 use Rattle.sheet.specs.Walk.{verdict_of}
 use Rattle.sheet.specs.declared.walk.Layout.{Layout}
-use Rattle.sheet.specs.declared.walk.Verdict.TheVariants.{Valid}
 use Rattle.law.specs.Words.{Every}
 use Rattle.law.specs.Sheet.{Sheet, WellFormed, IsOctet, sheet_octets}
 use Rattle.slave.specs.Answers.{told}
@@ -32,8 +30,8 @@ TracesHaveReplies = (l : ℕ) (trace : List ℕ) → RepliesOf l (traced_of l tr
 
 -- a start that no refusal of document 01 stops: its sheet, state, memory and an enabled link
 pub record Playable (sheet state memory : List ℕ) (lay : Layout) (st : LinkState) : Type 0 where
-  pub valid : verdict_of sheet ≡ Valid lay
-  pub held : state_of state lay.l lay.tolerance ≡ State st
+  pub valid : verdict_of sheet ≡ Ok lay
+  pub held : state_of state lay.l lay.tolerance ≡ Some st
   pub whole : length memory ≡ lay.memory
   pub on : st.link ≡ 0 → ⊥
 

@@ -27,32 +27,6 @@ laid_on (x ∷ xs) t d at =
     let e : at + suc (length xs) ≡ suc at + length xs = omega arith in
     ap (λ (k : ℕ). laid (laid (laid_one d at x) (suc at) xs) k t) e ∙ laid_on xs t (laid_one d at x) (suc at)
 
--- n octets of a sheet, k of them being behind
-module _ (s : List ℕ) (at from n : ℕ) where
-  pub laid_first : (d : List ℕ) → laid d at (cut s from n) ≡ laid d (at + 0) (cut s (from + 0) (n - 0))
-  laid_first d =
-      let p : at ≡ at + 0 = omega arith in
-      let q : from ≡ from + 0 = omega arith in
-      let r : n ≡ n - 0 = omega arith in
-      ap₂ (λ (x y : ℕ). laid d x (cut s y n)) p q ∙ ap (λ (m : ℕ). laid d (at + 0) (cut s (from + 0) m)) r
-
-  pub laid_next : (d : List ℕ) (k : ℕ) → k < n
-      → laid d (at + k) (cut s (from + k) (n - k))
-      ≡ laid (laid_one d (at + k) (get_or s (from + k) 0)) (at + (k + 1)) (cut s (from + (k + 1)) (n - (k + 1)))
-  unfolding laid cut
-  laid_next d k h =
-      let e : n - k ≡ suc (n - (k + 1)) = omega arith in
-      let p : suc (at + k) ≡ at + (k + 1) = omega arith in
-      let q : suc (from + k) ≡ from + (k + 1) = omega arith in
-      ap (λ (m : ℕ). laid d (at + k) (cut s (from + k) m)) e
-      ∙ ap₂ (λ (x y : ℕ). laid (laid_one d (at + k) (get_or s (from + k) 0)) x (cut s y (n - (k + 1)))) p q
-
-  pub laid_last : (d : List ℕ) (k : ℕ) → n ≤ k → laid d (at + k) (cut s (from + k) (n - k)) ≡ d
-  unfolding laid cut
-  laid_last d k h =
-      let e : n - k ≡ 0 = omega arith in
-      ap (λ (m : ℕ). laid d (at + k) (cut s (from + k) m)) e
-
 -- what has no room is left out by `set` too
 laid_one_is : (d : List ℕ) (at x : ℕ) → laid_one d at x ≡ set d at x
 unfolding laid_one

@@ -24,18 +24,18 @@ turns_none : (f : ℕ) (a : List ℕ) (i : ℕ) (b : List ℕ) (j : ℕ) → at_
 unfolding turns
 turns_none f a i b j e = pick_yes _ _ e
 
--- what is left of the list, and what of it is laid: the pass over a and b stands at i, j and at, and its buffer holds d, which at first held d₀
-pub record Left (a : List ℕ) (b d₀ d : List ℕ) (i j at : ℕ) : Type 0 where
-  pub first_in : i ≤ length a + 35
-  pub second_in : j ≤ length b + 35
-  pub bounded : at ≤ 40 * (i + j)
+-- what is left of the list, and what of it is laid: the pass over a and b stands at t, and its buffer holds d, which at first held d₀
+pub record Left (a : List ℕ) (b d₀ d : List ℕ) (t : Turn) : Type 0 where
+  pub first_in : t.first ≤ length a + 35
+  pub second_in : t.second ≤ length b + 35
+  pub bounded : t.list ≤ 40 * (t.first + t.second)
   pub same_room : length d ≡ length d₀
   pub fuel : ℕ
-  pub enough : (length a - i) + (length b - j) < fuel
-  pub long : at + length (turns fuel a i b j) ≡ length (merge_of a b)
-  pub holds : laid d at (turns fuel a i b j) ≡ laid d₀ 0 (merge_of a b)
+  pub enough : (length a - t.first) + (length b - t.second) < fuel
+  pub long : t.list + length (turns fuel a t.first b t.second) ≡ length (merge_of a b)
+  pub holds : laid d t.list (turns fuel a t.first b t.second) ≡ laid d₀ 0 (merge_of a b)
 
-pub left_first : (a b d : List ℕ) → Left a b d d 0 0 0
+pub left_first : (a b d : List ℕ) → Left a b d d (record { first = 0; second = 0; list = 0 })
 unfolding merge_of
 left_first a b d = record {
   first_in = omega arith;
@@ -55,59 +55,60 @@ less_by : (k m n : ℕ) → k ≡ m → m < n → k < n
 less_by k m n e h = omega (arith, e, h)
 
 -- after a turn
-pub left_next : (a b d₀ d e : List ℕ) (i j at : ℕ) (t : Turn) → Octets a → Octets b → Left a b d₀ d i j at → at_end a i b j ≡ false
-    → turned t e ≡ turns_to d at (step_of a i b j) → Left a b d₀ e t.first t.second t.list
+pub left_next : {a b d₀ d e : List ℕ} {t u : Turn} → Octets a → Octets b → Left a b d₀ d t → at_end a t.first b t.second ≡ false
+    → turned u e ≡ turns_to d t.list (step_of a t.first b t.second) → Left a b d₀ e u
 unfolding turns_to
-left_next a b d₀ d e i j at t oa ob l more p =
-    let s = step_of a i b j in
-    let g = goes a i b j oa ob l.first_in l.second_in more in
-    let first : t.first ≡ s.first = ap (λ (x : Turned). x.turn.first) p in
-    let second : t.second ≡ s.second = ap (λ (x : Turned). x.turn.second) p in
-    let behind : t.list ≡ at + length s.octets = ap (λ (x : Turned). x.turn.list) p in
-    let held : e ≡ laid d at s.octets = ap (λ (x : Turned). x.list) p in
+left_next {a} {b} {d₀} {d} {e} {t} {u} oa ob l more p =
+    let s = step_of a t.first b t.second in
+    let g = goes a t.first b t.second oa ob l.first_in l.second_in more in
+    let first : u.first ≡ s.first = ap (λ (x : Turned). x.turn.first) p in
+    let second : u.second ≡ s.second = ap (λ (x : Turned). x.turn.second) p in
+    let behind : u.list ≡ t.list + length s.octets = ap (λ (x : Turned). x.turn.list) p in
+    let held : e ≡ laid d t.list s.octets = ap (λ (x : Turned). x.list) p in
     let f = l.fuel - 1 in
     let fuel : l.fuel ≡ suc f = let h = l.enough in omega (arith, h) in
-    let rest : turns f a t.first b t.second ≡ turns f a s.first b s.second = ap₂ (λ (x y : ℕ). turns f a x b y) first second in
-    let split : turns l.fuel a i b j ≡ s.octets ++ turns f a s.first b s.second = ap (λ (n : ℕ). turns n a i b j) fuel ∙ turns_more f a i b j more in
+    let rest : turns f a u.first b u.second ≡ turns f a s.first b s.second = ap₂ (λ (x y : ℕ). turns f a x b y) first second in
+    let split : turns l.fuel a t.first b t.second ≡ s.octets ++ turns f a s.first b s.second =
+    ap (λ (n : ℕ). turns n a t.first b t.second) fuel ∙ turns_more f a t.first b t.second more in
     record {
       first_in = (let h = g.first_in in omega (arith, h, first));
       second_in = (let h = g.second_in in omega (arith, h, second));
-      bounded = (let h = step_most a i b j in let o = g.on in let q = l.bounded in omega (arith, h, o, q, first, second, behind));
-      same_room = ap length held ∙ laid_length s.octets d at ∙ l.same_room;
+      bounded = (let h = step_most a t.first b t.second in let o = g.on in let q = l.bounded in omega (arith, h, o, q, first, second, behind));
+      same_room = ap length held ∙ laid_length s.octets d t.list ∙ l.same_room;
       fuel = f;
       enough = less_fuel _ _ _ _ (ap₂ (λ (x y : ℕ). (length a - x) + (length b - y)) first second) g.less l.enough fuel;
       long =
           let n = length-append s.octets (turns f a s.first b s.second) in
-          let u = ap length split in
-          let v = ap length rest in
-          let w = l.long in
-          omega (arith, n, u, v, w, behind);
+          let x = ap length split in
+          let y = ap length rest in
+          let z = l.long in
+          omega (arith, n, x, y, z, behind);
       holds =
-          ap₂ (λ (x : List ℕ) (k : ℕ). laid x k (turns f a t.first b t.second)) held behind
-          ∙ ap (laid (laid d at s.octets) (at + length s.octets)) rest
-          ∙ laid_on s.octets (turns f a s.first b s.second) d at
-          ∙ sym (ap (laid d at) split)
+          ap₂ (λ (x : List ℕ) (k : ℕ). laid x k (turns f a u.first b u.second)) held behind
+          ∙ ap (laid (laid d t.list s.octets) (t.list + length s.octets)) rest
+          ∙ laid_on s.octets (turns f a s.first b s.second) d t.list
+          ∙ sym (ap (laid d t.list) split)
           ∙ l.holds;
     }
 
 -- and less is left
-pub left_less : (a b d₀ d e : List ℕ) (i j at : ℕ) (t : Turn) → Octets a → Octets b → Left a b d₀ d i j at → at_end a i b j ≡ false
-    → turned t e ≡ turns_to d at (step_of a i b j) → (length a - t.first) + (length b - t.second) < (length a - i) + (length b - j)
+pub left_less : {a b d₀ d e : List ℕ} {t u : Turn} → Octets a → Octets b → Left a b d₀ d t → at_end a t.first b t.second ≡ false
+    → turned u e ≡ turns_to d t.list (step_of a t.first b t.second) → (length a - u.first) + (length b - u.second) < (length a - t.first) + (length b - t.second)
 unfolding turns_to
-left_less a b d₀ d e i j at t oa ob l more p =
+left_less {a} {b} {t = t} oa ob l more p =
     less_by _ _ _
     (ap₂ (λ (x y : ℕ). (length a - x) + (length b - y)) (ap (λ (x : Turned). x.turn.first) p) (ap (λ (x : Turned). x.turn.second) p))
-    (goes a i b j oa ob l.first_in l.second_in more).less
+    (goes a t.first b t.second oa ob l.first_in l.second_in more).less
 
 -- at the end of both
-pub left_last : (a b d₀ d : List ℕ) (i j at : ℕ) → Left a b d₀ d i j at → at_end a i b j ≡ true → entered at d ≡ enters d₀ 0 (merge_of a b)
+pub left_last : {a b d₀ d : List ℕ} {t : Turn} → Left a b d₀ d t → at_end a t.first b t.second ≡ true → entered t.list d ≡ enters d₀ 0 (merge_of a b)
 unfolding enters laid
-left_last a b d₀ d i j at l end =
+left_last {a} {b} {d₀} {d} {t} l end =
     let f = l.fuel - 1 in
     let fuel : l.fuel ≡ suc f = let h = l.enough in omega (arith, h) in
-    let none : turns l.fuel a i b j ≡ [] = ap (λ (n : ℕ). turns n a i b j) fuel ∙ turns_none f a i b j end in
-    let long : at ≡ 0 + length (merge_of a b) = let u = ap length none in let w = l.long in omega (arith, u, w) in
-    ap₂ entered long (sym (ap (laid d at) none) ∙ l.holds)
+    let none : turns l.fuel a t.first b t.second ≡ [] = ap (λ (n : ℕ). turns n a t.first b t.second) fuel ∙ turns_none f a t.first b t.second end in
+    let long : t.list ≡ 0 + length (merge_of a b) = let u = ap length none in let w = l.long in omega (arith, u, w) in
+    ap₂ entered long (sym (ap (laid d t.list) none) ∙ l.holds)
 
 -- a turn lists at most 40 octets, and so the whole list is not long
 turns_most : (f : ℕ) (a : List ℕ) (i : ℕ) (b : List ℕ) (j : ℕ) → length (turns f a i b j) ≤ 40 * f

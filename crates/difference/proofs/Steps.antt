@@ -10,17 +10,23 @@ use Rattle.octets.proofs.Cases.{lt_or_le, eq_or_ne}
 use Rattle.octets.proofs.Pick.{pick_lt, pick_ge, pick_both}
 use Rattle.difference.specs.Records.{kind_at, size_at, rank_at, key_width, bits_at}
 use Rattle.difference.specs.Merge.{gone_of, new_of, changed_of, both_of, Step, step, step_of, at_end}
-use Rattle.difference.specs.Entered.{Entered, entered, enters, turned, turns_to}
-use Rattle.difference.specs.declared.merging.Turn.{Turn}
+use Rattle.difference.specs.Entered.{turned, turns_to}
+use Rattle.difference.specs.Moves.{Moves}
+use Rattle.difference.specs.declared.laying.Cursor.{Cursor}
 use Rattle.difference.proofs.Bounds.{Octets, cut_length, key_most, size_least, size_most, rank_end, rank_under, rank_most, inside}
 
-abbrev pub places_of : ℕ → ℕ → ℕ → Turn
-places_of first second list = record { first = first; second = second; list = list }
-
--- what has entered the list, with the places behind it
-pub turned_by : (d e os : List ℕ) (at m i j : ℕ) → entered m e ≡ enters d at os → turned (places_of i j m) e ≡ turns_to d at (step os i j)
-unfolding enters turns_to
-turned_by d e os at m i j p = ap (λ (x : Entered). turned (places_of i j x.behind) x.list) p
+-- what a cursor leaves that went on by a step's octets, with the places behind it
+pub turned_by : {was to is : Cursor} {d : List ℕ} {p : ℕ × ℕ} {m n : ℕ} (t u : Step) → t ≡ u → is ≡ to → Moves was to u.octets → d ≡ is.list.now
+    → p ≡ (m, n) → m ≡ u.first → n ≡ u.second → turned (record { first = p.0; second = p.1; list = is.at }) d ≡ turns_to was.list.now was.at t
+unfolding turns_to
+turned_by {was} {to} {is} {d} {p} t u e same moves held places first second =
+    let list = held ∙ ap (λ (c : Cursor). c.list.now) same ∙ moves.holds in
+    let at = ap (λ (c : Cursor). c.at) same ∙ moves.behind in
+    let one = ap (λ (x : ℕ × ℕ). x.0) places ∙ first in
+    let two = ap (λ (x : ℕ × ℕ). x.1) places ∙ second in
+    let done : turned (record { first = p.0; second = p.1; list = is.at }) d ≡ turns_to was.list.now was.at u =
+    λ i. record { turn = record { first = one i; second = two i; list = at i }; list = list i } in
+    done ∙ ap (turns_to was.list.now was.at) (sym e)
 
 -- what stands behind the end is the end
 end_too : (a : List ℕ) (i : ℕ) (b : List ℕ) (j : ℕ) → Octets b → kind_at a i ≡ 0 → rank_at a i ≤ rank_at b j → kind_at b j ≡ 0

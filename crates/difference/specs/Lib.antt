@@ -3,4 +3,6 @@ pub mod Records
 pub mod Merge
 pub mod Laid
 pub mod Entered
+pub mod Moves
 pub mod Difference
+pub mod Answers

@@ -1,58 +1,53 @@
-// What is listed of a record: each tells the place behind it.
-ghost use Rattle.std.specs.Prelude.{◌≡◌, ◌+◌, ◌≤◌};
+// What is listed of a record. A key has 4 octets at most, and a body 34. Gone and new list another part under another number each, in two lines, and one function
+// that is told both would be no plainer.
+ghost use Rattle.std.specs.Prelude.{◌+◌, ◌^◌, ◌<◌};
 ghost use Rattle.difference.specs.Merge.{gone_of, new_of, changed_of, both_of};
-ghost use Rattle.difference.specs.Entered.{entered, enters};
+ghost use Rattle.difference.specs.Moves.{Moves};
+
+use crate::laying::Cursor;
+use crate::records::Place;
 
 // A record that is gone: its key.
-pub fn gone(list: &mut [u8], at: usize, first: &[u8], i: usize) -> usize
-    requires { (at ≤ 1000100) × (i ≤ 4000) }
-    ensures { entered result list.new ≡ enters list.old at (gone_of first.now i) }
+pub fn gone(list: &mut Cursor, record: Place)
+    requires { list.old.at + 5 < 2 ^ 64 }
+    ensures { Moves list.old list.new (gone_of «record».entry.sheet.now «record».entry.at) }
 {
-    let kind = crate::records::kind_at(first, i);
-    let width = crate::records::key_width(kind);
-    crate::laying::lay(list, at, 64 + kind);
-    crate::laying::lay_part(list, at + 1, first, i + 1, width);
-    at + 1 + width
+    list.lay(64 + record.kind());
+    list.lay_part(record, 1, record.key_width());
 }
 
 // A record that is new: its body.
-pub fn new(list: &mut [u8], at: usize, second: &[u8], j: usize) -> usize
-    requires { (at ≤ 1000100) × (j ≤ 4000) }
-    ensures { entered result list.new ≡ enters list.old at (new_of second.now j) }
+pub fn new(list: &mut Cursor, record: Place)
+    requires { list.old.at + 35 < 2 ^ 64 }
+    ensures { Moves list.old list.new (new_of «record».entry.sheet.now «record».entry.at) }
 {
-    let kind = crate::records::kind_at(second, j);
-    let body = crate::records::size(kind) - 1;
-    crate::laying::lay(list, at, 80 + kind);
-    crate::laying::lay_part(list, at + 1, second, j + 1, body);
-    at + 1 + body
+    list.lay(80 + record.kind());
+    list.lay_part(record, 1, record.body());
 }
 
 // A record of which fields changed, if any did: their bits, and the body as it is now.
-fn changed(list: &mut [u8], at: usize, bits: u8, second: &[u8], j: usize) -> usize
-    requires { (at ≤ 1000100) × (j ≤ 4000) }
-    ensures { entered result list.new ≡ enters list.old at (changed_of bits second.now j) }
+fn changed(list: &mut Cursor, bits: u8, record: Place)
+    requires { list.old.at + 36 < 2 ^ 64 }
+    ensures { Moves list.old list.new (changed_of bits «record».entry.sheet.now «record».entry.at) }
 {
     if bits == 0 {
-        return at;
+        return;
     }
-    let kind = crate::records::kind_at(second, j);
-    let body = crate::records::size(kind) - 1;
-    crate::laying::lay(list, at, 96 + kind);
-    crate::laying::lay(list, at + 1, bits);
-    crate::laying::lay_part(list, at + 2, second, j + 1, body);
-    at + 2 + body
+    list.lay(96 + record.kind());
+    list.lay(bits);
+    list.lay_part(record, 1, record.body());
 }
 
 // Two records at one place of the order.
-pub fn both(list: &mut [u8], at: usize, first: &[u8], i: usize, second: &[u8], j: usize) -> usize
-    requires { (at ≤ 1000000) × (i ≤ 4000) × (j ≤ 4000) }
-    ensures { entered result list.new ≡ enters list.old at (both_of first.now i second.now j) }
+pub fn both(list: &mut Cursor, first: Place, second: Place)
+    requires { list.old.at + 40 < 2 ^ 64 }
+    ensures { Moves list.old list.new (both_of first.entry.sheet.now first.entry.at second.entry.sheet.now second.entry.at) }
 {
-    let kind = crate::records::kind_at(first, i);
-    if kind == crate::records::kind_at(second, j) {
-        let bits = crate::records::bits(first, i, second, j, kind);
-        return changed(list, at, bits, second, j);
+    let kind = first.kind();
+    if kind == second.kind() {
+        let bits = first.bits(second, kind);
+        return changed(list, bits, second);
     }
-    let behind = gone(list, at, first, i);
-    new(list, behind, second, j)
+    gone(list, first);
+    new(list, second);
 }

@@ -1,9 +1,12 @@
 // A record of a sheet where the caller holds it, by the place of its kind octet. An octet past the sheet's end counts as 0.
-ghost use Rattle.std.specs.Prelude.{◌≡◌, ◌+◌, ◌≤◌};
+ghost use Rattle.std.specs.Prelude.{◌≡◌, ◌+◌, ◌-◌, ◌<◌, ◌≤◌, [], ◌∷◌, get_or};
 ghost use Rattle.sheet.specs.Kinds.{size_of};
-ghost use Rattle.difference.specs.Records.{kind_at, key_width, key_at, place_of, rank_at, first_width, second_width, third_width, same_of, bit_of, bits_at};
+ghost use Rattle.difference.specs.Records.{kind_at, size_at, key_width, key_at, place_of, rank_at, first_width, second_width, third_width, same_of, bit_of, bits_at};
 
-// The kind of a record; 0 is the end.
+use sheet::kinds::Kind;
+
+// The kind of a record; 0 is the end. It answers at any place, which `Place` does not have; the kind stays a number, as an entry has it.
+#[tactic(auto, unfolding(crate::specs::Records::kind_at))]
 pub fn kind_at(sheet: &[u8], at: usize) -> u8
     ensures { result ≡ kind_at sheet.now at }
 {
@@ -11,143 +14,167 @@ pub fn kind_at(sheet: &[u8], at: usize) -> u8
 }
 
 // The octets of a record of a kind.
+#[tactic(auto, unfolding(sheet::specs::Kinds::size_of, sheet::specs::Kinds::is_kind, octets::specs::Pick::pick))]
 pub fn size(kind: u8) -> usize
     ensures { result ≡ size_of kind }
 {
-    match kind {
-        0 => 1,
-        1 => 4,
-        2 => 10,
-        3 => 8,
-        4 => 35,
-        5 => 4,
-        _ => 2,
+    match Kind::try_from(kind) {
+        Ok(Kind::End) => 1,
+        Ok(Kind::Link | Kind::ShortLink) => 4,
+        Ok(Kind::Region) => 10,
+        Ok(Kind::Parameter) => 8,
+        Ok(Kind::Item) => 35,
+        Ok(Kind::Tolerance | Kind::Release) | Err(_) => 2,
     }
 }
 
 // The octets of a kind's key.
+#[tactic(auto, unfolding(crate::specs::Records::key_width, sheet::specs::Kinds::is_kind, octets::specs::Pick::pick))]
 pub fn key_width(kind: u8) -> usize
     ensures { result ≡ key_width kind }
 {
-    match kind {
-        2 => 4,
-        3 => 2,
-        4 => 1,
-        _ => 0,
-    }
-}
-
-// The key of a record of a kind, as a number.
-fn key(sheet: &[u8], at: usize, kind: u8) -> u32
-    requires { at ≤ 4096 }
-    ensures { result ≡ key_at sheet.now at kind }
-{
-    match kind {
-        2 => octets::le4_at(sheet, at as u32 + 1),
-        3 => octets::le2(octets::octet(sheet, at + 1), octets::octet(sheet, at + 2)) as u32,
-        4 => octets::octet(sheet, at + 1) as u32,
+    match Kind::try_from(kind) {
+        Ok(Kind::Region) => 4,
+        Ok(Kind::Parameter) => 2,
+        Ok(Kind::Item) => 1,
         _ => 0,
     }
 }
 
 // Where a kind stands in the order.
-fn place(kind: u8) -> u8
+#[tactic(auto, unfolding(crate::specs::Records::place_of, sheet::specs::Kinds::is_kind, octets::specs::Pick::pick))]
+fn order(kind: u8) -> u8
     ensures { result ≡ place_of kind }
 {
-    match kind {
-        0 => 8,
-        5 => 1,
+    match Kind::try_from(kind) {
+        Ok(Kind::End) => 8,
+        Ok(Kind::ShortLink) => 1,
         _ => kind,
     }
 }
 
-// Where a record stands in the order.
-pub fn rank(sheet: &[u8], at: usize) -> u64
-    requires { at ≤ 4096 }
-    ensures { result ≡ rank_at sheet.now at }
+// The octets of the three fields of a kind's body; 0 where there is none.
+#[tactic(auto, unfolding(crate::specs::Records::first_width, crate::specs::Records::second_width, crate::specs::Records::third_width, sheet::specs::Kinds::is_kind, octets::specs::Pick::pick))]
+fn widths(kind: u8) -> [usize; 3]
+    ensures value { result ≡ first_width kind ∷ second_width kind ∷ third_width kind ∷ [] }
+    ensures most { get_or result 0 0 + get_or result 1 0 + get_or result 2 0 ≤ 40 }
 {
-    let kind = kind_at(sheet, at);
-    4294967296 * (place(kind) as u64) + key(sheet, at, kind) as u64
-}
-
-fn first_width(kind: u8) -> usize
-    ensures { result ≡ first_width kind }
-{
-    match kind {
-        2 => 4,
-        3 => 2,
-        _ => 1,
+    match Kind::try_from(kind) {
+        Ok(Kind::Region) => [4, 4, 1],
+        Ok(Kind::Parameter) => [2, 4, 1],
+        Ok(Kind::Item) => [1, 1, 32],
+        Ok(Kind::End | Kind::Link | Kind::ShortLink) => [1, 1, 1],
+        Ok(Kind::Tolerance | Kind::Release) | Err(_) => [1, 0, 0],
     }
 }
 
-fn second_width(kind: u8) -> usize
-    ensures { result ≡ second_width kind }
-{
-    if kind == 2 {
-        return 4;
-    }
-    if kind == 3 {
-        return 4;
-    }
-    if 5 < kind {
-        return 0;
-    }
-    1
+// A record of a sheet, by the place of its kind octet: so near to 0 that no octet of it is past the largest place.
+#[derive(Clone, Copy)]
+pub struct Place<'a> {
+    pub sheet: &'a [u8],
+    pub at: usize,
+    ghost near: { at ≤ 4096 },
 }
 
-fn third_width(kind: u8) -> usize
-    ensures { result ≡ third_width kind }
-{
-    if kind == 4 {
-        return 32;
+impl Place<'_> {
+    // One of its octets, from the kind octet on.
+    pub fn octet(self, k: usize) -> u8
+        requires { k ≤ 64 }
+        ensures { result ≡ get_or self.entry.sheet.now (self.entry.at + k) 0 }
+    {
+        octets::octet(self.sheet, self.at + k)
     }
-    if 5 < kind {
-        return 0;
-    }
-    1
-}
 
-// Whether so many octets of both sheets are the same.
-fn same(first: &[u8], i: usize, second: &[u8], j: usize, n: usize) -> bool
-    requires { (i ≤ 4096) × (j ≤ 4096) × (n ≤ 32) }
-    ensures { result ≡ same_of first.now i second.now j n }
-{
-    let mut so_far = true;
-    let mut k = 0;
-    while k < n {
-        so_far = so_far & (octets::octet(first, i + k) == octets::octet(second, j + k));
-        k += 1;
+    // Its kind; 0 is the end.
+    #[tactic(auto, using(crate::proofs::Bounds::kind_under))]
+    pub fn kind(self) -> u8
+        ensures value { result ≡ kind_at self.entry.sheet.now self.entry.at }
+        ensures most { result ≤ 7 }
+    {
+        kind_at(self.sheet, self.at)
     }
-    so_far
-}
 
-// The bit of a field, where its octets differ.
-fn bit_of(first: &[u8], i: usize, second: &[u8], j: usize, n: usize, bit: u8) -> u8
-    requires { (i ≤ 4096) × (j ≤ 4096) × (n ≤ 32) }
-    ensures { result ≡ bit_of first.now i second.now j n bit }
-{
-    if same(first, i, second, j, n) {
-        return 0;
+    // Its key, as a number.
+    #[tactic(auto, unfolding(crate::specs::Records::key_at, sheet::specs::Kinds::is_kind, octets::specs::Pick::pick))]
+    fn key(self, kind: u8) -> u32
+        ensures { result ≡ key_at self.entry.sheet.now self.entry.at kind }
+    {
+        match Kind::try_from(kind) {
+            Ok(Kind::Region) => octets::le4_at(self.sheet, self.at as u32 + 1),
+            Ok(Kind::Parameter) => octets::le2(self.octet(1), self.octet(2)) as u32,
+            Ok(Kind::Item) => self.octet(1) as u32,
+            _ => 0,
+        }
     }
-    bit
-}
 
-// A bit for each field that differs between two records of a kind.
-pub fn bits(first: &[u8], i: usize, second: &[u8], j: usize, kind: u8) -> u8
-    requires { (i ≤ 4000) × (j ≤ 4000) }
-    ensures { result ≡ bits_at first.now i second.now j kind }
-{
-    let one = first_width(kind);
-    let two = second_width(kind);
-    let three = third_width(kind);
-    bit_of(first, i + 1, second, j + 1, one, 1)
-        + bit_of(first, i + 1 + one, second, j + 1 + one, two, 2)
-        + bit_of(
-            first,
-            i + 1 + one + two,
-            second,
-            j + 1 + one + two,
-            three,
-            4,
-        )
+    // Where it stands in the order.
+    #[tactic(auto, unfolding(crate::specs::Records::rank_at))]
+    pub fn rank(self) -> u64
+        ensures { result ≡ rank_at self.entry.sheet.now self.entry.at }
+    {
+        let kind = self.kind();
+        4294967296 * (order(kind) as u64) + self.key(kind) as u64
+    }
+
+    // The octets of its key, which come first in the body.
+    #[tactic(auto, using(crate::proofs::Bounds::key_most))]
+    pub fn key_width(self) -> usize
+        ensures value { result ≡ key_width (kind_at self.entry.sheet.now self.entry.at) }
+        ensures most { result ≤ 4 }
+    {
+        key_width(self.kind())
+    }
+
+    // The octets of its body.
+    #[tactic(auto, using(crate::proofs::Bounds::size_least, crate::proofs::Bounds::size_most))]
+    pub fn body(self) -> usize
+        ensures value { result ≡ size_at self.entry.sheet.now self.entry.at - 1 }
+        ensures most { result ≤ 34 }
+    {
+        size(self.kind()) - 1
+    }
+
+    // The place behind it.
+    #[tactic(auto, using(crate::proofs::Bounds::size_least))]
+    pub fn behind(self) -> usize
+        ensures { result ≡ self.entry.at + size_at self.entry.sheet.now self.entry.at }
+    {
+        self.at + 1 + self.body()
+    }
+
+    // Whether so many octets are the same in another record: it goes through them all.
+    #[tactic(auto, using(crate::proofs::Same::same_more), unfolding(crate::specs::Records::same_of))]
+    fn same(self, other: Place, from: usize, n: usize) -> bool
+        requires { from + n ≤ 64 }
+        ensures { result ≡ same_of self.entry.sheet.now (self.entry.at + from) other.entry.sheet.now (other.entry.at + from) n }
+    {
+        let mut so_far = true;
+        for k in 0..n {
+            so_far = so_far & (self.octet(from + k) == other.octet(from + k));
+        }
+        so_far
+    }
+
+    // The bit of a field, where its octets differ.
+    #[tactic(auto, unfolding(crate::specs::Records::bit_of, octets::specs::Pick::pick))]
+    fn bit(self, other: Place, from: usize, n: usize, bit: u8) -> u8
+        requires { from + n ≤ 64 }
+        ensures value { result ≡ bit_of self.entry.sheet.now (self.entry.at + from) other.entry.sheet.now (other.entry.at + from) n bit }
+        ensures most { result ≤ bit }
+    {
+        if self.same(other, from, n) {
+            return 0;
+        }
+        bit
+    }
+
+    // A bit for each field that differs in another record of the kind.
+    pub fn bits(self, other: Place, kind: u8) -> u8
+        ensures { result ≡ bits_at self.entry.sheet.now self.entry.at other.entry.sheet.now other.entry.at kind }
+    {
+        let [one, two, three] = widths(kind);
+        self.bit(other, 1, one, 1)
+            + self.bit(other, 1 + one, two, 2)
+            + self.bit(other, 1 + one + two, three, 4)
+    }
 }

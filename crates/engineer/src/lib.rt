@@ -6,4 +6,4 @@ pub mod dump; // dump.rt: a whole sheet in words
 mod changes; // changes.rt: a list of differences in words
 mod faults; // faults.rt: a sheet's fault in words
 mod fields; // fields.rt: what a record says, field by field
-mod records; // records.rt: the kinds of record, their sizes, keys and names
+mod records; // records.rt: the kinds of record, their fields, keys and names

@@ -3,7 +3,7 @@ ghost use Rattle.std.specs.Prelude.{◌≤◌};
 
 use std::{fmt, io, str};
 
-// The front of a text, as far as there is room for it.
+// The front of a text, as far as there is room for it: an array and how much of it is used, since no program has a heap for a String.
 #[derive(Drop)]
 struct Front {
     text: [u8; 128],
@@ -25,10 +25,8 @@ impl fmt::Write for Front {
 
 // The words in front of the number that the library puts behind them.
 fn words(text: &str) -> &str {
-    match text.split_once(" (os error ") {
-        Some((front, _)) => front,
-        None => text,
-    }
+    text.split_once(" (os error ")
+        .map_or(text, |(front, _)| front)
 }
 
 // A line on standard error: a file, and why it cannot be opened.

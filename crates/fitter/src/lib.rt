@@ -2,33 +2,47 @@
 // the trace goes by in pieces that end between records.
 #![tactic(auto)]
 
-mod showing; // showing.rt: a difference, octet by octet
+mod drive; // drive.rt: a drive as its files have it
 mod pieces; // pieces.rt: the two passes over the trace
+mod showing; // showing.rt: a refusal, and a difference octet by octet
 
-use sheet::walk::Verdict;
+use drive::Drive;
+use files::Source;
+use replay::answers::Stop;
 use std::io::Read;
 use std::rt::{Env, Files};
 
+const SHEET: Source<'static> = Source {
+    argument: 1,
+    name: b"sheet.bin",
+};
+
+const STATE: Source<'static> = Source {
+    argument: 2,
+    name: b"state.bin",
+};
+
+const MEMORY: Source<'static> = Source {
+    argument: 3,
+    name: b"memory.bin",
+};
+
+const TRACE: Source<'static> = Source {
+    argument: 4,
+    name: b"trace.bin",
+};
+
 // The replay behind the files: the refusals that need no trace, then its form, then its exchanges.
-fn replayed<R: Files + Env + Print + Eprint>(
-    rt: &R,
-    sheet: &[u8],
-    state: &mut [u8],
-    memory: &mut [u8],
-    trace: &mut impl Read,
-) {
-    let told = replay::playing::replay(sheet, state, memory, b"");
-    if told.number != 0 {
-        words::print_refusal(rt, told.number, told.place as u64);
+fn replayed<R: Files + Env + Print + Eprint>(rt: &R, drive: &mut Drive, trace: &mut impl Read) {
+    if let Err(stop) = drive.replay(b"") {
+        showing::print_refusal(rt, stop, 0);
         return;
     }
-    let verdict = sheet::walk::check(sheet);
-    let Verdict::Valid(layout) = verdict else {
+    let Ok(layout) = sheet::walk::check(drive.sheet) else {
         return;
     };
-    let form = pieces::form(rt, trace, layout.l);
-    if form.good {
-        pieces::play(rt, sheet, state, memory, layout.l, form.count);
+    if let Some(octets) = pieces::form(rt, trace, layout.l) {
+        pieces::play(rt, drive, layout.l, octets);
     }
 }
 
@@ -41,18 +55,17 @@ fn turned<R: Files + Env + Print + Eprint>(
     trace: &mut impl Read,
 ) {
     let mut state = [0u8; 11];
-    let told = slave::turning::turn(sheet, old, &mut state);
-    if told.number != 0 {
-        words::print_refusal(rt, told.number, told.place as u64);
+    if let Err(refusal) = slave::turning::turn(sheet, old, &mut state) {
+        showing::print_refusal(rt, Stop::Refused(refusal), 0);
         return;
     }
-    files::print_line(
-        rt,
-        2,
-        b"state.bin",
-        b": a state record of release 1, turned\n",
-    );
-    replayed(rt, sheet, &mut state, memory, trace);
+    STATE.print_line(rt, b"a state record of release 1, turned");
+    let mut drive = Drive {
+        sheet,
+        state: &mut state,
+        memory,
+    };
+    replayed(rt, &mut drive, trace);
 }
 
 // The files whole, in room for one octet more than the longest that can be right, so that a longer one is refused as the longest would not be. Ten
@@ -64,37 +77,34 @@ fn read_all<R: Files + Env + Print + Eprint>(
     memory: R::File,
     trace: &mut R::File,
 ) {
+    // Fixed room, as the program allocates nothing.
     let mut sheet_room = [0u8; 2049];
     let mut state_room = [0u8; 12];
     let mut memory_room = [0u8; 65537];
-    let a = files::read(rt, sheet, 1, b"sheet.bin", &mut sheet_room);
-    let b = files::read(rt, state, 2, b"state.bin", &mut state_room);
-    let c = files::read(rt, memory, 3, b"memory.bin", &mut memory_room);
+    let a = SHEET.read(rt, sheet, &mut sheet_room);
+    let b = STATE.read(rt, state, &mut state_room);
+    let c = MEMORY.read(rt, memory, &mut memory_room);
+    let sheet = &sheet_room[..a];
+    let state = &mut state_room[..b];
+    let memory = &mut memory_room[..c];
     if b == 10 {
-        turned(
-            rt,
-            &sheet_room[..a],
-            &state_room[..b],
-            &mut memory_room[..c],
-            trace,
-        );
+        turned(rt, sheet, state, memory, trace);
         return;
     }
-    replayed(
-        rt,
-        &sheet_room[..a],
-        &mut state_room[..b],
-        &mut memory_room[..c],
-        trace,
-    );
+    let mut drive = Drive {
+        sheet,
+        state,
+        memory,
+    };
+    replayed(rt, &mut drive, trace);
 }
 
 // The whole run; every missing file is named before it stops.
 pub fn run<R: Files + Env + Print + Eprint>(rt: &R) {
-    let sheet = files::open(rt, 1, b"sheet.bin");
-    let state = files::open(rt, 2, b"state.bin");
-    let memory = files::open(rt, 3, b"memory.bin");
-    let trace = files::open(rt, 4, b"trace.bin");
+    let sheet = SHEET.open(rt);
+    let state = STATE.open(rt);
+    let memory = MEMORY.open(rt);
+    let trace = TRACE.open(rt);
     let (Some(sheet), Some(state), Some(memory), Some(mut trace)) = (sheet, state, memory, trace)
     else {
         return;

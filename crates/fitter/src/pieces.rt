@@ -1,262 +1,136 @@
 // The two passes over the trace, by pieces of whole records: its form, then its exchanges.
 ghost use Rattle.std.specs.Prelude.{◌≤◌};
 
-use crate::showing;
+use crate::drive::Drive;
+use crate::{TRACE, showing};
+use replay::answers::Stop;
 use std::io::Read;
-use std::num::wrapping_add_u64;
 use std::rt::{Env, Files};
 
-// How far a pass is: whether the file may go on, whether nothing was wrong, and the octets or records behind it. No file is long enough for the
-// count to wrap.
-#[derive(Drop)]
-pub struct Pass {
-    more: bool,
-    pub good: bool,
-    pub count: u64,
-}
+// Room for a piece.
+const ROOM: usize = 65536;
 
-fn going(count: u64) -> Pass {
-    Pass {
-        more: true,
-        good: true,
-        count,
-    }
-}
-
-fn ended(good: bool, count: u64) -> Pass {
-    Pass {
-        more: false,
-        good,
-        count,
-    }
-}
-
-// The octets of a piece: as many whole records as a large buffer holds.
-fn piece_length(l: u8) -> usize
-    ensures { result ≤ 65536 }
+// The octets of a record: a kind, a command and a reply.
+fn record_size(l: u8) -> usize
+    ensures { 1 ≤ result }
 {
-    match l {
-        8 => 3855 * 17,
-        16 => 1985 * 33,
-        32 => 1008 * 65,
-        48 => 675 * 97,
-        _ => 508 * 129,
-    }
+    1 + 2 * (l as usize)
 }
 
 // The whole records among octets of a trace.
 fn records(octets: u64, l: u8) -> u64 {
-    octets / (1 + 2 * (l as u64))
+    octets / (1 + 2 * u64::from(l))
 }
 
 // A line on standard error for each 100,000 records, so that a long trace is seen to go on.
 fn print_progress(rt: &impl Eprint, before: u64, after: u64, what: &str) {
-    if before / 100000 == after / 100000 {
-        return;
+    if before / 100000 != after / 100000 {
+        let _ = eprintln!(rt; "{after} {what}");
     }
-    let _ = rt.eprint(after);
-    let _ = rt.eprint(what);
 }
 
-// The form of the next piece in lent room, behind octets that are counted.
-fn form_in(
-    rt: &(impl Env + Print + Eprint),
-    file: &mut impl Read,
+// A pass over the trace. Each piece, as many whole records as the room holds, is the step's, with the count of what is behind it; the step gives the count
+// behind the piece, or ends the pass. No file is long enough for the count to wrap, or for the turns, which a proved loop has to count, to be used up.
+fn pass<I: Read, F: FnMut(&[u8], u64) -> Option<u64>>(
+    rt: &(impl Env + Print),
+    trace: &mut I,
     l: u8,
-    piece: &mut [u8],
-    before: u64,
-) -> Pass {
-    let got = files::read_full(file, piece);
-    if got == 0 {
-        return ended(files::is_at_end(rt, file, 4, b"trace.bin"), before);
-    }
-    let told = replay::whole::checked(&piece[..got], l);
-    if told.number != 0 {
-        words::print_refusal(rt, told.number, wrapping_add_u64(before, told.place as u64));
-        return ended(false, before);
-    }
-    let after = wrapping_add_u64(before, got as u64);
-    print_progress(
-        rt,
-        records(before, l),
-        records(after, l),
-        " records have their form\n",
-    );
-    going(after)
-}
-
-// The form of the next piece.
-fn form_next(rt: &(impl Env + Print + Eprint), file: &mut impl Read, l: u8, before: u64) -> Pass {
-    let mut room = [0u8; 65536];
-    let n = piece_length(l);
-    form_in(rt, file, l, &mut room[..n], before)
-}
-
-// The form of the whole trace, and its octets; a proved loop has to end, so it counts down from a number that no run uses up.
-pub fn form(rt: &(impl Env + Print + Eprint), file: &mut impl Read, l: u8) -> Pass {
-    let mut pass = form_next(rt, file, l, 0);
-    if !pass.more && pass.good {
-        files::print_line(rt, 4, b"trace.bin", b": empty\n");
-    }
-    let mut turns = u64::MAX;
-    while turns > 0 && pass.more {
-        pass = form_next(rt, file, l, pass.count);
-        turns -= 1;
-    }
-    pass
-}
-
-// Where a record of a piece begins; the kinds are taken one by one, so that each product is by a number.
-fn record_start(k: usize, l: u8) -> usize
-    requires { k ≤ 67108863 }
-    ensures { result ≤ 8657043327 }
+    mut step: F,
+) -> Option<u64>
+    requires { F.IsAlwaysCallable step }
 {
-    match l {
-        8 => k * 17,
-        16 => k * 33,
-        32 => k * 65,
-        48 => k * 97,
-        _ => k * 129,
+    // Fixed room, as the program allocates nothing.
+    let mut room = [0u8; ROOM];
+    let piece = &mut room[..ROOM - ROOM % record_size(l)];
+    let mut count = 0;
+    for _ in 0..u64::MAX {
+        let got = files::read_full(trace, piece);
+        if got == 0 {
+            return TRACE.is_at_end(rt, trace).then_some(count);
+        }
+        count = step(&piece[..got], count)?;
     }
+    Some(count)
 }
 
-// The record of a piece that differs.
-fn print_record(
-    rt: &impl Print,
-    sheet: &[u8],
-    state: &mut [u8],
-    memory: &mut [u8],
-    piece: &[u8],
-    l: u8,
-    place: u32,
-    before: u64,
-) {
-    let k = (place / 64) as usize;
-    let octet = (place % 64) as usize;
-    let from = record_start(k, l) + 1;
-    let mid = from + l as usize;
-    let to = mid + l as usize;
-    // The record is one of the piece's, as the replay came to it; a test is shorter than that proof.
-    if piece.len() < to {
-        return;
+// The form of the whole trace; how many octets it has, unless it is refused or cannot be read.
+pub fn form(rt: &(impl Env + Print + Eprint), trace: &mut impl Read, l: u8) -> Option<u64> {
+    let octets = pass(rt, trace, l, |piece, before| {
+        if let Err(stop) = replay::whole::checked(piece, l) {
+            showing::print_refusal(rt, stop, before);
+            return None;
+        }
+        let after = before.wrapping_add(piece.len() as u64);
+        print_progress(
+            rt,
+            records(before, l),
+            records(after, l),
+            "records have their form",
+        );
+        Some(after)
+    })?;
+    if octets == 0 {
+        TRACE.print_line(rt, b"empty");
     }
-    showing::print_difference(
-        rt,
-        sheet,
-        state,
-        memory,
-        &piece[from..mid],
-        &piece[mid..to],
-        wrapping_add_u64(before, k as u64),
-        octet,
-    );
+    Some(octets)
+}
+
+// The record of a piece that differs, and its place there.
+fn print_record(rt: &impl Print, drive: &mut Drive, piece: &[u8], l: u8, place: u32, before: u64) {
+    let k = place / 64;
+    let octet = (place % 64) as usize;
+    let Some([_, both @ ..]) = piece.chunks_exact(record_size(l)).nth(k as usize) else {
+        return;
+    };
+    let Some((command, reply)) = both.split_at_checked(l as usize) else {
+        return;
+    };
+    let record = before.wrapping_add(u64::from(k));
+    showing::print_difference(rt, drive, command, reply, record, octet);
 }
 
 // The exchanges of a piece, behind records that are counted. Its form was right in the first pass.
 fn play_piece(
     rt: &(impl Env + Print + Eprint),
-    sheet: &[u8],
-    state: &mut [u8],
-    memory: &mut [u8],
+    drive: &mut Drive,
     piece: &[u8],
     l: u8,
     before: u64,
-) -> Pass {
-    let told = replay::playing::replay(sheet, state, memory, piece);
-    if told.number == 0 {
-        let after = wrapping_add_u64(before, told.place as u64);
-        print_progress(rt, before, after, " records agree\n");
-        return going(after);
+) -> Option<u64> {
+    match drive.replay(piece) {
+        Ok(records) => {
+            let after = before.wrapping_add(u64::from(records));
+            print_progress(rt, before, after, "records agree");
+            Some(after)
+        }
+        Err(Stop::Differs(place)) => {
+            print_record(rt, drive, piece, l, place, before);
+            None
+        }
+        Err(_) => {
+            TRACE.print_line(rt, b"changed while it was read");
+            None
+        }
     }
-    if told.number == replay::numbers::DIFFERS {
-        print_record(rt, sheet, state, memory, piece, l, told.place, before);
-        return ended(false, before);
-    }
-    files::print_line(rt, 4, b"trace.bin", b": changed while it was read\n");
-    ended(false, before)
 }
 
-// The exchanges of the next piece in lent room.
-fn play_in(
-    rt: &(impl Env + Print + Eprint),
-    file: &mut impl Read,
-    sheet: &[u8],
-    state: &mut [u8],
-    memory: &mut [u8],
-    piece: &mut [u8],
-    l: u8,
-    before: u64,
-) -> Pass {
-    let got = files::read_full(file, piece);
-    if got == 0 {
-        return ended(files::is_at_end(rt, file, 4, b"trace.bin"), before);
-    }
-    play_piece(rt, sheet, state, memory, &piece[..got], l, before)
-}
-
-// The exchanges of the next piece.
-fn play_next(
-    rt: &(impl Env + Print + Eprint),
-    file: &mut impl Read,
-    sheet: &[u8],
-    state: &mut [u8],
-    memory: &mut [u8],
-    l: u8,
-    before: u64,
-) -> Pass {
-    let mut room = [0u8; 65536];
-    let n = piece_length(l);
-    play_in(rt, file, sheet, state, memory, &mut room[..n], l, before)
-}
-
-// The exchanges of all pieces.
-fn play_all(
-    rt: &(impl Env + Print + Eprint),
-    file: &mut impl Read,
-    sheet: &[u8],
-    state: &mut [u8],
-    memory: &mut [u8],
-    l: u8,
-) -> Pass {
-    let mut pass = going(0);
-    let mut turns = u64::MAX;
-    while turns > 0 && pass.more {
-        pass = play_next(rt, file, sheet, state, memory, l, pass.count);
-        turns -= 1;
-    }
-    pass
-}
-
-// What is told where no record differs; a trace without a record agrees with anything, and that is no verdict.
-fn print_agreement(rt: &impl Print, count: u64) {
-    if count == 0 {
-        words::print(rt, b"nothing to replay: the trace has no record\n");
-        return;
-    }
-    words::print(rt, b"all agree: ");
-    words::print_number(rt, count);
-    words::print(rt, b" records\n");
-}
-
-// The exchanges of the trace, whose file is opened once more, and what came of them. A pipe gives its octets once only, so they are counted again.
-pub fn play<R: Files + Env + Print + Eprint>(
-    rt: &R,
-    sheet: &[u8],
-    state: &mut [u8],
-    memory: &mut [u8],
-    l: u8,
-    octets: u64,
-) {
-    let Some(mut file) = files::open(rt, 4, b"trace.bin") else {
+// The exchanges of the trace, whose file is opened once more, and what came of them. A pipe gives its octets once only, so they are counted again; a trace
+// without a record agrees with anything, and that is no verdict.
+pub fn play<R: Files + Env + Print + Eprint>(rt: &R, drive: &mut Drive, l: u8, octets: u64) {
+    let Some(mut trace) = TRACE.open(rt) else {
         return;
     };
-    let pass = play_all(rt, &mut file, sheet, state, memory, l);
-    if !pass.good {
+    let played = pass(rt, &mut trace, l, |piece, before| {
+        play_piece(rt, drive, piece, l, before)
+    });
+    let Some(count) = played else {
         return;
+    };
+    if count != records(octets, l) {
+        TRACE.print_line(rt, b"changed while it was read");
+    } else if count == 0 {
+        let _ = println!(rt; "nothing to replay: the trace has no record");
+    } else {
+        let _ = println!(rt; "all agree: {count} records");
     }
-    if pass.count != records(octets, l) {
-        files::print_line(rt, 4, b"trace.bin", b": changed while it was read\n");
-        return;
-    }
-    print_agreement(rt, pass.count);
 }

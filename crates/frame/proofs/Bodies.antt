@@ -8,9 +8,9 @@ use native.Mathlib.Omega.{arith}
 use borrow.Author.Tests.{lt-ltb, le-ltb, le-leb, lt-leb}
 use lib.Dec.{leb, ltb}
 use lib.ListN.{length, get_or}
+use Rattle.std.proofs.lemmas.Bool.{cases_lt}
 use Rattle.octets.specs.Parts.{part, put_at}
 use Rattle.octets.specs.Pick.{pick}
-use Rattle.octets.proofs.Cases.{lt_or_le}
 use Rattle.octets.proofs.Overlaid.{put_length, put_before, put_inside, put_behind, part_length}
 use Rattle.octets.proofs.Pick.{pick_yes, pick_no}
 use Rattle.machine.specs.declared.words.Carrier.{Carrier}
@@ -44,8 +44,8 @@ put_told d at s fits k =
     ap (λ (n : ℕ). get_or (put_at d at s) n 0) (let e : k ≡ at + (k - at) = omega arith in e)
     ∙ put_inside d at s fits (k - at) (omega arith) ∙ sym (laid_here at s k (get_or d k 0) a b))
     (λ (b : at + length s ≤ k). put_behind d at s fits k b ∙ sym (laid_behind at s k (get_or d k 0) b))
-    (lt_or_le k (at + length s)))
-    (lt_or_le k at)
+    (cases_lt k (at + length s)))
+    (cases_lt k at)
 
 -- a carrier's fields again, and its data
 unfoldable pub carried_at : Form → Carrier → List ℕ → List ℕ → ℕ → ℕ → ℕ

@@ -7,8 +7,8 @@ use Prim.Native.Nat.{ℕ, ◌+◌, ◌*◌, ◌/◌, ◌%◌, ◌≤◌, ◌<◌
 use native.Mathlib.Omega.{arith}
 use lib.Dec.{eqb}
 use lib.ListN.{length, get_or, replicate, length-replicate, get_or-replicate, get_or-eq_default}
+use Rattle.std.proofs.lemmas.Bool.{cases_lt}
 use Rattle.octets.specs.Pick.{pick}
-use Rattle.octets.proofs.Cases.{lt_or_le}
 use Rattle.octets.proofs.Overlaid.{put_length}
 use Rattle.link.specs.declared.state.LinkState.{LinkState}
 use Rattle.machine.specs.declared.words.Command.{Command}
@@ -99,7 +99,7 @@ begun_short head rwdt k = refl
 zeros_at : (l k : ℕ) → get_or (replicate {A = ℕ} l 0) k 0 ≡ 0
 zeros_at l k =
     ⊎_elim (λ (u : k < l). get_or-replicate l k 0 0 u)
-    (λ (u : l ≤ k). let e = length-replicate {A = ℕ} l 0 in get_or-eq_default (replicate l 0) 0 {n = k} (omega arith)) (lt_or_le k l)
+    (λ (u : l ≤ k). let e = length-replicate {A = ℕ} l 0 in get_or-eq_default (replicate l 0) 0 {n = k} (omega arith)) (cases_lt k l)
 
 -- the head of an outcome in numbers, where each fits its bits
 module _ (code wdt identity alarm : ℕ) (next : LinkState) (rsn : next.watch.rsn < 16) where

@@ -16,8 +16,8 @@ use borrow.Author.Tests.{lt-ltb, le-ltb, le-leb, lt-leb}
 use lib.Dec.{eqb, ltb}
 use lib.ListN.{length, get_or, drop, drop_of_length-le}
 use lib.Seq.{drop-cons}
+use Rattle.std.proofs.lemmas.Bool.{cases_lt}
 use Rattle.octets.specs.Pick.{pick}
-use Rattle.octets.proofs.Cases.{lt_or_le}
 use Rattle.octets.proofs.Pick.{pick_yes, pick_no, pick_ne, pick_both}
 use Rattle.sheet.specs.declared.walk.Form.{Form}
 use Rattle.sheet.specs.declared.walk.Form.TheVariants.{Enhanced, Short}
@@ -35,7 +35,7 @@ module _ (r : Run) (k : ℕ) where
       ⊎_elim
       (λ (l : k - r.first < r.many). rw (lt-ltb (k - r.first) r.many l, le-leb r.first k h, lt-ltb k (r.first + r.many) (omega arith)) refl)
       (λ (l : r.many ≤ k - r.first). rw (le-ltb (k - r.first) r.many l, le-leb r.first k h, le-ltb k (r.first + r.many) (omega arith)) refl)
-      (lt_or_le (k - r.first) r.many)
+      (cases_lt (k - r.first) r.many)
 
 pub zero_bits : (form : Form) (k : ℕ) → unnamed_bits form k 0 ≡ 0
 unfolding unnamed_bits

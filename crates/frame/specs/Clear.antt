@@ -3,7 +3,16 @@ use Rattle.std.specs.Prelude.{ℕ, ◌+◌, ◌-◌, ◌%◌, ◌≤◌, ◌<◌
 use Rattle.octets.specs.Pick.{pick}
 use Rattle.sheet.specs.declared.walk.Form.{Form}
 use Rattle.sheet.specs.declared.walk.Form.TheVariants.{Enhanced, Short}
+use Rattle.frame.specs.Unnamed.{fields_at, written_at, names_for}
+use Rattle.frame.specs.declared.unnamed.Names.{Names}
 use Rattle.frame.specs.declared.unnamed.Run.{Run}
+
+-- what a command names, by its own fields and data, and as the runs that `stray_from` goes by
+unfoldable pub named_by : Form → List ℕ → Names
+named_by form c = record { form = form; fields = fields_at form (get_or c 0 0); written = written_at form (get_or c 0 0) c }
+
+abbrev pub runs_of : Names → List Run
+runs_of n = names_for n.form n.fields n.written
 
 -- the octets before the fields may be what they are
 unfoldable pub HeadClear : Form → List ℕ → Type 0

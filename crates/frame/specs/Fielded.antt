@@ -21,23 +21,3 @@ fields_of code wdt control four five six seven address = record {
   profile = seven;
   alarm_mode = le2 four five;
 }
-
--- of the short type
-abbrev pub short_fields_of : ℕ → ℕ → ℕ → ℕ → ℕ → Command
-short_fields_of code wdt four five six = record {
-  code = code;
-  wdt = wdt;
-  identity = 0;
-  number = le2 four five;
-  size = six;
-  item = four;
-  offset = five;
-  count = six;
-  mode = 0;
-  address = 0;
-  version = four;
-  com_mod = five;
-  com_time = six;
-  profile = 0;
-  alarm_mode = four;
-}

@@ -2,12 +2,12 @@
 ghost use Rattle.std.specs.Prelude.{◌≡◌, [], ◌∷◌, ◌/◌, ◌%◌, ◌≤◌, length, replicate};
 ghost use Rattle.octets.specs.Parts.{put_at};
 ghost use Rattle.frame.specs.Head.{rwdt_of, missed_bit, status_of, begun_of};
-ghost use Rattle.frame.specs.Places.{wdt_at, Sized};
-ghost use Rattle.sheet.specs.declared.walk.Form.TheVariants.{Short};
+ghost use Rattle.frame.specs.Places.{Sized};
 
 use link::state::LinkState;
 use sheet::walk::Form;
 
+#[tactic(auto, unfolding(octets::specs::Pick::pick, crate::specs::Head::rwdt_of))]
 fn rwdt(wdt: u8, next: LinkState) -> u8
     ensures { result ≡ rwdt_of wdt next }
 {
@@ -18,8 +18,10 @@ fn rwdt(wdt: u8, next: LinkState) -> u8
 }
 
 // Status bit 1: a failure of the watchdog was tolerated. Every other exchange leaves the count 0.
+#[tactic(auto, unfolding(octets::specs::Pick::pick, crate::specs::Head::missed_bit))]
 fn missed_bit(next: LinkState) -> u16
-    ensures { result ≡ missed_bit next }
+    ensures told { result ≡ missed_bit next }
+    ensures small { result ≤ 2 }
 {
     let failures = next.watch.failures;
     if failures == 0 {
@@ -28,6 +30,7 @@ fn missed_bit(next: LinkState) -> u16
     2
 }
 
+#[tactic(auto, unfolding(octets::specs::Pick::pick, crate::specs::Head::status_of))]
 fn status(identity: u8, alarm: u8, next: LinkState) -> u16
     ensures { result ≡ status_of identity alarm next }
 {
@@ -40,27 +43,22 @@ fn status(identity: u8, alarm: u8, next: LinkState) -> u16
     1 + missed + 4 + echo + high
 }
 
-// Four octets over a reply of zeros: no old octet stays.
+// Four octets over a reply of zeros: no old octet stays. They are stored one by one, since a put is a loop.
+#[tactic(auto, unfolding(octets::specs::Parts::put_at))]
 fn four(reply: &mut [u8], code: u8, second: u8, word: u16)
     requires { 4 ≤ length reply.old }
     ensures { reply.new ≡ put_at (replicate (length reply.old) 0) 0 (code ∷ second ∷ word % 256 ∷ word / 256 ∷ []) }
 {
-    octets::zero(reply);
+    let [low, high] = word.to_le_bytes();
+    octets::fill(reply, 0);
     reply[0] = code;
     reply[1] = second;
-    reply[2] = (word % 256) as u8;
-    reply[3] = (word / 256) as u8;
+    reply[2] = low;
+    reply[3] = high;
 }
 
-// RWDT as the short type's last octet.
-fn last(reply: &mut [u8], rwdt: u8)
-    requires { length reply.old ≡ 16 }
-    ensures { reply.new ≡ put_at reply.old (wdt_at Short) (rwdt ∷ []) }
-{
-    reply[15] = rwdt;
-}
-
-// The head and RWDT over a reply of zeros.
+// The head and RWDT over a reply of zeros. Code, WDT and identity come one by one, as `begun_of` has them.
+#[tactic(auto, using(crate::proofs::Numbers::sized_long), unfolding(crate::specs::Head::head_of, crate::specs::Head::begun_of, crate::specs::Places::Sized))]
 pub fn head(
     form: Form,
     reply: &mut [u8],
@@ -77,7 +75,7 @@ pub fn head(
         Form::Enhanced => four(reply, code, rwdt(wdt, next), status(identity, alarm, next)),
         Form::Short => {
             four(reply, code, alarm, status(identity, 0, next));
-            last(reply, rwdt(wdt, next));
+            reply[15] = rwdt(wdt, next);
         }
     }
 }

@@ -1,4 +1,6 @@
-// Where things stand in a PDU of each type: the numbers of the two, side by side.
+// Where things stand in a PDU of each type: the numbers of the two, side by side, a table each and no conversion; a trait with a constant for each would hide that.
+#![tactic(auto, unfolding(crate::specs::Places::place_of, crate::specs::Places::own_alarm_at, crate::specs::Places::fields_end, crate::specs::Places::alarms_at, crate::specs::Places::mode_size, crate::specs::Places::data_from, crate::specs::Places::echo_from, crate::specs::Places::echo_size))]
+
 ghost use Rattle.std.specs.Prelude.{◌≡◌};
 ghost use Rattle.frame.specs.Places.{place_of, own_alarm_at, fields_end, alarms_at, mode_size, data_from, echo_from, echo_size};
 

@@ -7,12 +7,13 @@ use Prim.Native.Nat.{ℕ, ◌+◌, ◌*◌, ◌<◌}
 use native.Mathlib.Omega.{arith}
 use borrow.Author.Tests.{eqb-true, eq-eqb, lt-ltb, le-ltb}
 use lib.Dec.{eqb}
+use Rattle.std.proofs.lemmas.Bool.{and_parts}
 use Rattle.octets.proofs.Cases.{decided}
 use Rattle.law.specs.Words.{Every}
 use Rattle.law.specs.Difference.{Entry, Change, gone, new, changed, rank, rank_of, bits_of, turn_of, without, put_in, instead, applied_one, applied}
 use Rattle.law.proofs.Laid.{when_yes, when_no}
 use Rattle.law.proofs.Merge.{Rising, Shaped, both, merge}
-use Rattle.law.proofs.Ranks.{when_cases, same_key, Below, same_entry, and_true}
+use Rattle.law.proofs.Ranks.{when_cases, same_key, Below, same_entry}
 use Rattle.law.proofs.MergeSteps.{by_merge}
 use Rattle.law.proofs.Merges.{After, Good, none, gone_on, new_on, both_on}
 
@@ -24,7 +25,7 @@ misses : (kind key : ℕ) (p : Entry) → (rank kind key ≡ rank_of p → ⊥) 
 misses kind key p n =
     ⊎_elim
     (λ t.
-    let b = and_true (eqb kind p.kind) (eqb key p.key) t in
+    let b = and_parts (eqb kind p.kind) (eqb key p.key) t in
     absurd (n (ap₂ rank (eqb-true kind p.kind b.0) (eqb-true key p.key b.1))))
     (λ f. f)
     (decided (eqb kind p.kind && eqb key p.key))

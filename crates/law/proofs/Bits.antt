@@ -49,8 +49,8 @@ pub bits_are_fields : (xs ys : List (List ℕ)) → length xs ≡ length ys → 
     → bit (bits_from 1 xs ys) k ≡ not (same (get_or xs k []) (get_or ys k []))
 unfolding bits_from same
 bits_are_fields [] [] l k = none_set k
-bits_are_fields [] (y ∷ ys) l k = absurd (let w : ⊥ = omega arith in w)
-bits_are_fields (x ∷ xs) [] l k = absurd (let w : ⊥ = omega arith in w)
+bits_are_fields [] (y ∷ ys) l k = absurd (omega arith)
+bits_are_fields (x ∷ xs) [] l k = absurd (omega arith)
 bits_are_fields (x ∷ xs) (y ∷ ys) l zero =
     ap (λ (n : ℕ). bit (when (same x y) 0 1 + n) 0) (twice 1 xs ys) ∙ bit_first (same x y) (bits_from 1 xs ys)
 bits_are_fields (x ∷ xs) (y ∷ ys) l (suc k) =

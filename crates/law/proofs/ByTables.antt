@@ -3,14 +3,12 @@ use mathlib.Core.Logic.{◌⊎◌, inl, inr, ⊎_elim, ◌↔◌}
 use mathlib.Core.Path.{◌≡◌, refl, sym, ap, subst, ◌∙◌}
 use mathlib.Core.List.{List, []}
 use Prim.Native.Nat.{ℕ}
-use native.Mathlib.Omega.{arith}
+use Rattle.std.specs.Prelude.{Ok, Err}
 use Rattle.replay.specs.Replay.{replay_of}
 use Rattle.sheet.specs.Faults.{number_of}
+use Rattle.sheet.specs.Told.{Verdict, faulty}
 use Rattle.sheet.specs.Walk.{verdict_of}
 use Rattle.sheet.specs.declared.records.Fault.{Fault}
-use Rattle.sheet.specs.declared.walk.Layout.{Layout}
-use Rattle.sheet.specs.declared.walk.Verdict.{Verdict}
-use Rattle.sheet.specs.declared.walk.Verdict.TheVariants.{Valid, Faulty}
 use Rattle.slave.specs.Answers.{sheet_answer}
 use Rattle.slave.specs.Calls.{reset_of, enable_of, turn_of}
 use Rattle.slave.specs.Exchange.{exchange_of}
@@ -28,24 +26,18 @@ use Rattle.law.proofs.Complete.{complete}
 use Rattle.law.proofs.Numbered.{fault_is}
 use Rattle.law.proofs.Octets.{in_octets_lem}
 use Rattle.law.proofs.OneSheet.{one_sheet}
-use Rattle.law.proofs.Place.{fault_told}
+use Rattle.law.proofs.Place.{same_told, fault_told}
 use Rattle.law.proofs.Plays.{leaves_replay, replay_good}
 use Rattle.law.proofs.Sound.{sound}
 use Rattle.law.proofs.Told.{differences_told}
 use Rattle.law.proofs.Traces.{form_exists, one_form}
 
-no_fault : {f : Fault} {p : ℕ} {lay : Layout} → Valid lay ≡ Faulty f p → ⊥
-no_fault e = let z : ◌≡◌ {A = ℕ} 0 1 = cc in omega arith
-
-same_fault : {f g : Fault} {p q : ℕ} → Faulty f p ≡ Faulty g q → (f ≡ g) × (p ≡ q)
-same_fault {f} {g} {p} {q} e = (let a : f ≡ g = cc in a, let b : p ≡ q = cc in b)
-
 some_reading : (s : List ℕ) → Every IsOctet s → ((h : Sheet) × WellFormed h × (s ≡ sheet_octets h)) ⊎ ((f : ℕ) × (p : ℕ) × FirstFault s f p)
 some_reading s o = go (verdict_of s) refl
   where
     go : (v : Verdict) → verdict_of s ≡ v → ((h : Sheet) × WellFormed h × (s ≡ sheet_octets h)) ⊎ ((f : ℕ) × (p : ℕ) × FirstFault s f p)
-    go (Valid lay) e = let q = sound s lay o e in inl (q.0, q.1, q.2)
-    go (Faulty f place) e = inr (number_of f, place, fault_told s f place o e)
+    go (Ok lay) e = let q = sound s lay o e in inl (q.0, q.1, q.2)
+    go (Err w) e = inr (number_of w.fault, w.place, fault_told s w.fault w.place o e)
 
 pub one_reading : OneReading
 one_reading = record {
@@ -54,9 +46,9 @@ one_reading = record {
   one_fault = λ s f g p q o x y.
       let a = fault_is s f p o x in
       let b = fault_is s g q o y in
-      let e = same_fault (sym a.2 ∙ b.2) in
+      let e = same_told (sym a.2 ∙ b.2) in
       (sym a.1 ∙ ap number_of e.0 ∙ b.1, e.1);
-  never_both = λ h f p w x. no_fault (sym (complete h w) ∙ (fault_is (sheet_octets h) f p (in_octets_lem h w) x).2);
+  never_both = λ h f p w x. let e = sym (complete h w) ∙ (fault_is (sheet_octets h) f p (in_octets_lem h w) x).2 in cc;
   some_form = λ l trace five. form_exists l five trace;
   one_form = λ l trace a b five. one_form l five trace a b;
 }
@@ -65,13 +57,13 @@ one_reading = record {
 module _ (sheet : List ℕ) (o : Every IsOctet sheet) (z : Result) (Good : Sheet → Result → Type 0) (refusal : ℕ → ℕ → Result)
     (good : (h : Sheet) → WellFormed h → sheet ≡ sheet_octets h → Good h z)
     (only : (h : Sheet) → WellFormed h → (x y : Result) → Good h x → Good h y → x ≡ y)
-    (bad : (f : Fault) (place : ℕ) → verdict_of sheet ≡ Faulty f place → z ≡ refusal (number_of f) place) where
+    (bad : (f : Fault) (place : ℕ) → verdict_of sheet ≡ faulty f place → z ≡ refusal (number_of f) place) where
   allowed : ByLaw sheet Good refusal z
   allowed = go (verdict_of sheet) refl
     where
       go : (v : Verdict) → verdict_of sheet ≡ v → ByLaw sheet Good refusal z
-      go (Valid lay) e = let q = sound sheet lay o e in inl (q.0, q.1, q.2, good q.0 q.1 q.2)
-      go (Faulty f place) e = inr (number_of f, place, fault_told sheet f place o e, bad f place e)
+      go (Ok lay) e = let q = sound sheet lay o e in inl (q.0, q.1, q.2, good q.0 q.1 q.2)
+      go (Err w) e = inr (number_of w.fault, w.place, fault_told sheet w.fault w.place o e, bad w.fault w.place e)
 
   alone : (x : Result) → ByLaw sheet Good refusal x → x ≡ z
   alone x c =
@@ -97,31 +89,31 @@ lengths_good : (h : Sheet) → WellFormed h → host_has (lengths_of (verdict_of
 unfolding lengths_of
 lengths_good h w = ap (λ (v : Verdict). host_has (lengths_of v) [] [] []) (complete h w)
 
-sheets_bad : (sheet : List ℕ) (f : Fault) (place : ℕ) → verdict_of sheet ≡ Faulty f place → host_has (packed (sheet_answer (verdict_of sheet))) [] [] [] ≡ result (number_of f) place [] [] []
+sheets_bad : (sheet : List ℕ) (f : Fault) (place : ℕ) → verdict_of sheet ≡ faulty f place → host_has (packed (sheet_answer (verdict_of sheet))) [] [] [] ≡ result (number_of f) place [] [] []
 unfolding sheet_answer
 sheets_bad sheet f place e = ap (λ (v : Verdict). host_has (packed (sheet_answer v)) [] [] []) e
 
-lengths_bad : (sheet : List ℕ) (f : Fault) (place : ℕ) → verdict_of sheet ≡ Faulty f place → host_has (lengths_of (verdict_of sheet)) [] [] [] ≡ result 0 0 [] [] []
+lengths_bad : (sheet : List ℕ) (f : Fault) (place : ℕ) → verdict_of sheet ≡ faulty f place → host_has (lengths_of (verdict_of sheet)) [] [] [] ≡ result 0 0 [] [] []
 unfolding lengths_of
 lengths_bad sheet f place e = ap (λ (v : Verdict). host_has (lengths_of v) [] [] []) e
 
-resets_bad : (sheet s : List ℕ) (f : Fault) (place : ℕ) → verdict_of sheet ≡ Faulty f place → leaves_state (reset_of sheet s) ≡ result (number_of f) place s [] []
+resets_bad : (sheet s : List ℕ) (f : Fault) (place : ℕ) → verdict_of sheet ≡ faulty f place → leaves_state (reset_of sheet s) ≡ result (number_of f) place s [] []
 unfolding reset_of sheet_answer
 resets_bad sheet s f place e = ap leaves_state (on_faulty _ f place _ _ e) ∙ ap (λ (v : Verdict). result (sheet_answer v).number (sheet_answer v).place s [] []) e
 
-enables_bad : (sheet s : List ℕ) (f : Fault) (place : ℕ) → verdict_of sheet ≡ Faulty f place → leaves_state (enable_of sheet s) ≡ result (number_of f) place s [] []
+enables_bad : (sheet s : List ℕ) (f : Fault) (place : ℕ) → verdict_of sheet ≡ faulty f place → leaves_state (enable_of sheet s) ≡ result (number_of f) place s [] []
 unfolding enable_of sheet_answer
 enables_bad sheet s f place e = ap leaves_state (on_faulty _ f place _ _ e) ∙ ap (λ (v : Verdict). result (sheet_answer v).number (sheet_answer v).place s [] []) e
 
-turns_bad : (sheet old s : List ℕ) (f : Fault) (place : ℕ) → verdict_of sheet ≡ Faulty f place → leaves_state (turn_of sheet old s) ≡ result (number_of f) place s [] []
+turns_bad : (sheet old s : List ℕ) (f : Fault) (place : ℕ) → verdict_of sheet ≡ faulty f place → leaves_state (turn_of sheet old s) ≡ result (number_of f) place s [] []
 unfolding turn_of sheet_answer
 turns_bad sheet old s f place e = ap leaves_state (on_faulty _ f place _ _ e) ∙ ap (λ (v : Verdict). result (sheet_answer v).number (sheet_answer v).place s [] []) e
 
-pub exchanges_bad : (sheet s m c r : List ℕ) (f : Fault) (place : ℕ) → verdict_of sheet ≡ Faulty f place → leaves (exchange_of sheet s m c r) ≡ result (number_of f) place s m r
+pub exchanges_bad : (sheet s m c r : List ℕ) (f : Fault) (place : ℕ) → verdict_of sheet ≡ faulty f place → leaves (exchange_of sheet s m c r) ≡ result (number_of f) place s m r
 unfolding exchange_of sheet_answer
 exchanges_bad sheet s m c r f place e = ap leaves (on_faulty _ f place _ _ e) ∙ ap (λ (v : Verdict). result (sheet_answer v).number (sheet_answer v).place s m r) e
 
-replays_bad : (sheet s m trace : List ℕ) (f : Fault) (place : ℕ) → verdict_of sheet ≡ Faulty f place → leaves_replay (replay_of sheet s m trace) ≡ result (number_of f) place s m []
+replays_bad : (sheet s m trace : List ℕ) (f : Fault) (place : ℕ) → verdict_of sheet ≡ faulty f place → leaves_replay (replay_of sheet s m trace) ≡ result (number_of f) place s m []
 unfolding replay_of sheet_answer
 replays_bad sheet s m trace f place e = ap leaves_replay (on_faulty _ f place _ _ e) ∙ ap (λ (v : Verdict). result (sheet_answer v).number (sheet_answer v).place s m []) e
 

@@ -3,7 +3,7 @@ use mathlib.Core.Bool.{Bool, true, false, not}
 use mathlib.Core.Logic.{◌⊎◌, inl, inr, ⊎_elim}
 use mathlib.Core.Path.{◌≡◌, refl, sym, ap, subst, subst₂, ◌∙◌}
 use mathlib.Core.List.{List, [], ◌∷◌}
-use Prim.Native.Nat.{ℕ, zero, suc, ◌≤◌}
+use Prim.Native.Nat.{ℕ}
 use native.Mathlib.Omega.{arith}
 use borrow.Author.Tests.{eq-eqb, ne_eqb}
 use lib.Dec.{eqb}
@@ -28,8 +28,8 @@ use Rattle.link.specs.declared.state.LinkState.{LinkState}
 use Rattle.link.specs.Old.{old_state_of}
 use Rattle.link.proofs.Facts.{Facts}
 use Rattle.sheet.proofs.Valid.{valid_sheet}
+use Rattle.sheet.specs.Told.{Verdict}
 use Rattle.sheet.specs.declared.walk.Layout.{Layout}
-use Rattle.sheet.specs.declared.walk.Verdict.{Verdict}
 use Rattle.slave.specs.Answers.{told, on_sheet, on_state}
 use Rattle.slave.specs.Calls.{After, after, reset_of, enable_of, turn_of}
 use Rattle.slave.specs.Exchange.{Left, left, outcome_for, refusal_of, exchanged, exchange_of}
@@ -49,10 +49,6 @@ leaves l = result l.answer.number l.answer.place l.state l.memory l.reply
 abbrev pub leaves_state : After → Result
 leaves_state a = result a.answer.number a.answer.place a.state [] []
 
-some : (n : ℕ) → (n ≡ 0 → ⊥) → 1 ≤ n
-some zero z = absurd (z refl)
-some (suc n) z = omega arith
-
 -- an exchange that nothing refuses
 pub done_same : (h : Sheet) → WellFormed h → (st : LinkState) → Facts h.l (allows h) st → (m c : List ℕ) → length m ≡ room h.regions → length c ≡ h.l → (st.link ≡ 0 → ⊥)
     → leaves (exchanged (sheet_octets h) (layout_for h) st m c) ≡ done h (octets_of st) m c (fate_of h (octets_of st) m c)
@@ -62,7 +58,7 @@ done_same h w st f m c whole asked on =
     let o = outcome_for (sheet_octets h) (layout_for h) st c in
     let u = stray_of (form_for h.pdu) (release_for h) c in
     let same = outcome_same h (sheet_octets h) st m c f on world w.l asked in
-    let v = outcome_valid (sheet_octets h) (layout_for h) st (command_of (form_for h.pdu) c) u h.l f (some st.link on) (omega (arith, world.few)) in
+    let v = outcome_valid (sheet_octets h) (layout_for h) st (command_of (form_for h.pdu) c) u h.l f (omega arith) (omega (arith, world.few)) in
     let fits = subst₂ (λ (x y : ℕ). Fitting (form_for h.pdu) o.effect x y (length (sheet_octets h))) (sym asked) (sym whole)
     (outcome_fits (sheet_octets h) (layout_for h) (valid_sheet (sheet_octets h) (layout_for h) (complete h w)) st (command_of (form_for h.pdu) c) u) in
     let r = reply_same h (sheet_octets h) st m c o (fate_of h (octets_of st) m c) same (fate_small h (octets_of st) m c) v asked (subst (Sized (form_for h.pdu)) (sym asked) (pdu_sized h.pdu h.l world.long w.l)) fits in
@@ -102,18 +98,18 @@ module _ (h : Sheet) (w : WellFormed h) where
       let X = exchanged (sheet_octets h) lay st m c in
       let go = refusal st (length m) (length c) (length r) in
       ⊎_elim (λ (a : length m ≡ room h.regions → ⊥).
-      go 2 (pick_differ _ _ a) (λ z. let w : ⊥ = omega arith in w) X s m r ∙ sym (when_yes _ _ (ap not (ne_eqb _ _ a))))
+      go 2 (pick_differ _ _ a) (λ z. omega arith) X s m r ∙ sym (when_yes _ _ (ap not (ne_eqb _ _ a))))
       (λ (a : length m ≡ room h.regions).
       ⊎_elim (λ (b : length c ≡ h.l → ⊥).
-      go 3 (pick_same _ _ a ∙ pick_differ _ _ b) (λ z. let w : ⊥ = omega arith in w) X s m r
+      go 3 (pick_same _ _ a ∙ pick_differ _ _ b) (λ z. omega arith) X s m r
       ∙ sym (when_no _ _ (ap not (eq-eqb _ _ a)) ∙ when_yes _ _ (ap not (ne_eqb _ _ b))))
       (λ (b : length c ≡ h.l).
       ⊎_elim (λ (d : length r ≡ h.l → ⊥).
-      go 4 (pick_same _ _ a ∙ pick_same _ _ b ∙ pick_differ _ _ d) (λ z. let w : ⊥ = omega arith in w) X s m r
+      go 4 (pick_same _ _ a ∙ pick_same _ _ b ∙ pick_differ _ _ d) (λ z. omega arith) X s m r
       ∙ sym (when_no _ _ (ap not (eq-eqb _ _ a)) ∙ when_no _ _ (ap not (eq-eqb _ _ b)) ∙ when_yes _ _ (ap not (ne_eqb _ _ d))))
       (λ (d : length r ≡ h.l).
       ⊎_elim (λ (z : st.link ≡ 0).
-      go 5 (pick_same _ _ a ∙ pick_same _ _ b ∙ pick_same _ _ d ∙ pick_eq _ _ z) (λ z. let w : ⊥ = omega arith in w) X s m r
+      go 5 (pick_same _ _ a ∙ pick_same _ _ b ∙ pick_same _ _ d ∙ pick_eq _ _ z) (λ z. omega arith) X s m r
       ∙ sym (when_no _ _ (ap not (eq-eqb _ _ a)) ∙ when_no _ _ (ap not (eq-eqb _ _ b)) ∙ when_no _ _ (ap not (eq-eqb _ _ d)) ∙ when_yes _ _ (eq-eqb _ _ z)))
       (λ (z : st.link ≡ 0 → ⊥).
       ap leaves (pick_same _ _ (pick_same _ _ a ∙ pick_same _ _ b ∙ pick_same _ _ d ∙ pick_ne _ _ z)) ∙ done_same h w st f m c a b z

@@ -6,45 +6,39 @@ use mathlib.Core.List.{List, [], ◌∷◌, ◌++◌}
 use Prim.Native.Nat.{ℕ, zero, suc, ◌+◌, ◌-◌}
 use native.Mathlib.Nat.{add-zero}
 use native.Mathlib.Omega.{arith}
+use Rattle.std.specs.Prelude.{Err}
 use Rattle.octets.specs.Pick.{pick}
 use Rattle.regions.specs.Region.{listed}
 use Rattle.sheet.specs.Faults.{number_of}
 use Rattle.sheet.specs.Handed.{fault_of}
+use Rattle.sheet.specs.Told.{Reading, reads}
 use Rattle.sheet.proofs.Told.{fault_back}
 use Rattle.sheet.specs.declared.records.Counts.{Counts}
 use Rattle.sheet.specs.declared.records.Fault.{Fault}
-use Rattle.sheet.specs.declared.records.Reading.{Reading}
-use Rattle.sheet.specs.declared.records.Reading.TheVariants.{Record, Bad}
 use Rattle.law.specs.Words.{From, InARow, sum_of, NoMore}
-
-same_fault : {f g : Fault} → Bad f ≡ Bad g → f ≡ g
-same_fault e = cc
-
-pub read_no_fault : {f : Fault} {n : ℕ} {next : Counts} → Record n next ≡ Bad f → ⊥
-read_no_fault e = let z : ◌≡◌ {A = ℕ} 0 1 = cc in omega arith
 
 pub same_number : {f g : Fault} → number_of f ≡ number_of g → f ≡ g
 same_number {f} {g} e = sym (fault_back f) ∙ ap fault_of e ∙ fault_back g
 
 -- one of the picks that make a check
 pub decides : (b : Bool) (g : Fault) (y : Reading) {fault : Fault} {n : ℕ} {Holds Later : Type 0} → number_of g ≡ n → (b ≡ true → Holds → ⊥)
-    → (b ≡ false → (y ≡ Bad fault) ↔ (((Holds → ⊥) × (number_of fault ≡ n)) ⊎ (Holds × Later)))
-    → (pick b (Bad g) y ≡ Bad fault) ↔ (((Holds → ⊥) × (number_of fault ≡ n)) ⊎ (Holds × Later))
+    → (b ≡ false → (y ≡ Err fault) ↔ (((Holds → ⊥) × (number_of fault ≡ n)) ⊎ (Holds × Later)))
+    → (pick b (Err g) y ≡ Err fault) ↔ (((Holds → ⊥) × (number_of fault ≡ n)) ⊎ (Holds × Later))
 unfolding pick
-decides true g y e fails go = (
-  λ w. inl (fails refl, ap number_of (sym (same_fault w)) ∙ e),
-  λ c. ⊎_elim (λ p. ap Bad (same_number (e ∙ sym p.1))) (λ q. absurd (fails refl q.0)) c,
+decides true g y {fault} e fails go = (
+  λ w. inl (fails refl, let same : fault ≡ g = cc in ap number_of same ∙ e),
+  λ c. ⊎_elim (λ p. ap Err (same_number (e ∙ sym p.1))) (λ q. absurd (fails refl q.0)) c,
 )
 decides false g y e fails go = go refl
 
 -- all of them passed
-pub passes : {y : Reading} {fault : Fault} {n : ℕ} {Holds Later : Type 0} → Holds → (y ≡ Bad fault) ↔ Later
-    → (y ≡ Bad fault) ↔ (((Holds → ⊥) × (number_of fault ≡ n)) ⊎ (Holds × Later))
+pub passes : {y : Reading} {fault : Fault} {n : ℕ} {Holds Later : Type 0} → Holds → (y ≡ Err fault) ↔ Later
+    → (y ≡ Err fault) ↔ (((Holds → ⊥) × (number_of fault ≡ n)) ⊎ (Holds × Later))
 passes h go = (λ w. inr (h, go.0 w), λ c. ⊎_elim (λ p. absurd (p.0 h)) (λ q. go.1 q.1) c)
 
 -- the record was read
-pub no_more : {n : ℕ} {next : Counts} {fault : Fault} → (Record n next ≡ Bad fault) ↔ NoMore (number_of fault)
-no_more = (read_no_fault, λ z. absurd z)
+pub no_more : {n : ℕ} {next : Counts} {fault : Fault} → (reads n next ≡ Err fault) ↔ NoMore (number_of fault)
+no_more = (λ e. cc, λ z. absurd z)
 
 -- the order of a list with one more
 module _ {A : Type 0} (g : ℕ → A) (R : A → A → Type 0) (x : A) where
@@ -62,7 +56,7 @@ module _ {A : Type 0} (g : ℕ → A) (R : A → A → Type 0) (x : A) where
   unfolding listed
   row_more zero p r = tt
   row_more (suc n) p r =
-      from_more 0 n p (subst (λ (i : ℕ). R (g i) x) (let e : suc n - 1 ≡ 0 + n = omega arith in e) (r (λ (z : suc n ≡ 0). let k : ⊥ = omega arith in k)))
+      from_more 0 n p (subst (λ (i : ℕ). R (g i) x) (let e : suc n - 1 ≡ 0 + n = omega arith in e) (r (λ (z : suc n ≡ 0). omega arith)))
 
   pub row_last : (n : ℕ) → InARow R (listed g 0 n ++ x ∷ []) → (n ≡ 0 → ⊥) → R (g (n - 1)) x
   unfolding listed

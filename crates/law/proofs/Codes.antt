@@ -16,11 +16,11 @@ use Rattle.link.specs.Stored.{octets_of}
 use Rattle.link.specs.declared.state.LinkState.{LinkState}
 use Rattle.link.proofs.Facts.{Facts}
 use Rattle.machine.specs.Codes.{is_known, is_allowed}
+use Rattle.machine.specs.Judgements.{Judgement, refused as refusal}
 use Rattle.machine.specs.Judging.{data_of, strayed, judge_of}
 use Rattle.machine.specs.Spans.{right_of}
+use Rattle.machine.specs.declared.codes.Alarm.TheVariants.{OutOfSupport, WrongPhase}
 use Rattle.machine.specs.declared.words.Field.TheVariants.{Whole}
-use Rattle.machine.specs.declared.words.Judgement.{Judgement}
-use Rattle.machine.specs.declared.words.Judgement.TheVariants.{Refused}
 use Rattle.regions.specs.Region.{gives_of}
 use Rattle.regions.specs.declared.Right.TheVariants.{WriteAsync, WriteSync}
 use Rattle.sheet.specs.declared.walk.Form.{Form}
@@ -96,7 +96,7 @@ module _ (pdu : PduType) (h : Sheet) (sheet : List ℕ) (st : LinkState) (m c : 
         let w = wdt_same pdu (code c) c in
         subst (λ (f : Fate). Is (judge_of sheet lay st (named form k c) stray_here) f) (sym e₄)
         (via_here (pick_no _ _ (ap not e₁))
-        (step pdu h sheet st m c facts on world good asked w _ _ 12 whole_at (ap not e₂) (λ a.
+        (step pdu h sheet st m c facts on world good asked w _ _ WrongPhase whole_at (ap not e₂) (λ a.
         via_here (ap₂ strayed (stray_same pdu h s m c k r.named same) e₃)
         (subst (λ (ks : List Check). Is (strayed u d) (checked s ks r)) (sym split)
         (between pdu h sheet st m c facts on world good asked w u (drop (suc n) r.checks) r ten (take n r.checks) d nine (g a))))))
@@ -106,8 +106,8 @@ module _ (pdu : PduType) (h : Sheet) (sheet : List ℕ) (st : LinkState) (m c : 
     unfolding judge_of
     unknown e₁ e₂ =
         via_here (pick_yes _ _ (ap not e₁))
-        (subst (λ (f : Fate). Is (Refused 8 Whole) f) (sym e₂)
-        (refusing pdu h sheet st m c facts on world good asked (wdt_same pdu (code c) c) 8 Whole 0 whole_at))
+        (subst (λ (f : Fate). Is (refusal OutOfSupport Whole) f) (sym e₂)
+        (refusing pdu h sheet st m c facts on world good asked (wdt_same pdu (code c) c) OutOfSupport Whole 0 whole_at))
 
 module _ (st : LinkState) {l n : ℕ} (facts : Facts l n st) (on : st.link ≡ 0 → ⊥) where
   pub read_is : (x : ℕ) → readable x ≡ gives_of x (right_of false st.link)

@@ -9,16 +9,15 @@ use borrow.Author.Tests.{ne_eqb, eq-eqb}
 use lib.Dec.{eqb}
 use lib.ListN.{length, get_or, drop, length-append}
 use lib.Seq.{get_or-drop, drop_at, drop-drop}
+use Rattle.std.specs.Prelude.{Ok}
 use Rattle.octets.proofs.Pick.{pick_yes, pick_no, pick_ge, pick_ne}
 use Rattle.regions.specs.Region.{regions_of}
 use Rattle.sheet.specs.Kinds.{is_kind, size_of, misplaced_of, end_before, least_number, least_code}
 use Rattle.sheet.specs.Reading.{link_of, body_of, record_of}
+use Rattle.sheet.specs.Told.{reads, Verdict}
 use Rattle.sheet.specs.Walk.{none, tolerance_in, release_in, layout_of, ended_of, onward, walk_of, verdict_of}
 use Rattle.sheet.specs.declared.records.Counts.{Counts}
-use Rattle.sheet.specs.declared.records.Reading.TheVariants.{Record}
 use Rattle.sheet.specs.declared.walk.Layout.{Layout}
-use Rattle.sheet.specs.declared.walk.Verdict.{Verdict}
-use Rattle.sheet.specs.declared.walk.Verdict.TheVariants.{Valid}
 use Rattle.law.specs.Words.{Every, From, InARow, joined, sum_of, octet}
 use Rattle.law.specs.Sheet.{Item as Ident, Sheet, GoodRegion, GoodParameter, GoodItem, GoodRelease, WellFormed, PduType, GoodLength, link_kind, region_octets, parameter_octets, item_octets, tolerance_octets, release_octets, written, sheet_octets, room}
 use Rattle.law.proofs.Links.{link_back, link_known, length_back, form_is}
@@ -28,16 +27,16 @@ use Rattle.law.proofs.Readings.{behind_link, regions_listed, read_area, next_are
 use Rattle.law.proofs.Layouts.{layout_for, full, counts, counts_for, as_region}
 
 -- the end record, and what comes before the first record
-end_read : (s : List ℕ) (so : Counts) → 1 < length s → Ends s (Valid (layout_of s so)) (0 ∷ []) so
+end_read : (s : List ℕ) (so : Counts) → 1 < length s → Ends s (Ok (layout_of s so)) (0 ∷ []) so
 unfolding walk_of onward record_of body_of size_of is_kind misplaced_of ended_of
-end_read s so l zero h = absurd (let w : ⊥ = omega arith in w)
+end_read s so l zero h = absurd (omega arith)
 end_read s so l (suc f) h =
-    let e : record_of s (0 ∷ []) so ≡ Record 1 so =
+    let e : record_of s (0 ∷ []) so ≡ reads 1 so =
     behind_link s 0 1 [] so l refl refl (pick_yes _ _ refl) (omega arith) ∙ pick_yes _ _ refl in
     rw e (pick_yes _ _ refl ∙ pick_no _ _ refl)
 
 link_read : (pdu : PduType) (l v p : ℕ) (t : List ℕ) → GoodLength pdu l
-    → record_of (link_kind pdu ∷ l ∷ v ∷ p ∷ t) (link_kind pdu ∷ l ∷ v ∷ p ∷ t) none ≡ Record 4 none
+    → record_of (link_kind pdu ∷ l ∷ v ∷ p ∷ t) (link_kind pdu ∷ l ∷ v ∷ p ∷ t) none ≡ reads 4 none
 unfolding record_of body_of link_of size_of misplaced_of
 link_read pdu l v p t h =
     let kind = link_kind pdu in
@@ -46,7 +45,7 @@ link_read pdu l v p t h =
     let some = link_begins kind link in
     let d : eqb (length s) (length s) ≡ true = eq-eqb (length s) (length s) refl in
     let z : size_of kind ≡ 4 = pick_ne _ _ some ∙ pick_yes _ _ link in
-    let n : eqb (length s) 0 ≡ false = ne_eqb _ _ (λ (q : length s ≡ 0). let w : ⊥ = omega arith in w) in
+    let n : eqb (length s) 0 ≡ false = ne_eqb _ _ (λ (q : length s ≡ 0). omega arith) in
     let u : size_of kind ≤ length s = omega arith in
     pick_no _ _ n ∙ pick_no _ _ (ap not (link_known pdu)) ∙ pick_no _ _ (ap (λ (b : Bool). misplaced_of b kind none) d ∙ ap not link) ∙ pick_ge _ _ u
     ∙ pick_ne _ _ some ∙ pick_yes _ _ link ∙ pick_no _ _ (ap not (length_back pdu l h))
@@ -90,7 +89,7 @@ unfolding tolerance_in
 tolerance_there s [] t r p k v m at = pick_yes _ _ refl
 tolerance_there s (x ∷ xs) t r p k v m at =
     let b = 4 + 10 * r + 8 * p + 35 * k in
-    pick_ne _ _ (λ (z : suc (length xs) ≡ 0). let w : ⊥ = omega arith in w)
+    pick_ne _ _ (λ (z : suc (length xs) ≡ 0). omega arith)
     ∙ ap (λ (i : ℕ). get_or s i 0) (let e : 5 + 10 * r + 8 * p + 35 * k ≡ b + 1 = omega arith in e)
     ∙ sym (get_or-drop b s 1 0) ∙ ap (λ (l : List ℕ). get_or l 1 0) at
 
@@ -101,7 +100,7 @@ unfolding release_in
 release_there s [] t r p k q m at = pick_yes _ _ refl
 release_there s (x ∷ xs) t r p k q m at =
     let b = 4 + 10 * r + 8 * p + 35 * k + 2 * q in
-    pick_ne _ _ (λ (z : suc (length xs) ≡ 0). let w : ⊥ = omega arith in w)
+    pick_ne _ _ (λ (z : suc (length xs) ≡ 0). omega arith)
     ∙ ap (λ (i : ℕ). get_or s i 0) (let e : 5 + 10 * r + 8 * p + 35 * k + 2 * q ≡ b + 1 = omega arith in e)
     ∙ sym (get_or-drop b s 1 0) ∙ ap (λ (l : List ℕ). get_or l 1 0) at
 
@@ -152,38 +151,38 @@ come_behind h w rest v short go =
     let go-releases : Ends s v (joined release_octets h.releases ++ rest) (full r p k q 0 m) =
     run_all s v release_octets GoodRelease (λ n. 0) (λ n. 0) (λ n. 0) (4 + 10 * r + 8 * p + 35 * k + 2 * q) 2 1 (sum_of (λ n. 0) h.releases)
     (λ n z. full r p k q n m) (λ n z. 0) (omega arith) (λ x g. refl)
-    (λ x t (e : 7 ≡ 0). let z : ⊥ = omega arith in z)
+    (λ x t (e : 7 ≡ 0). omega arith)
     (λ x t n z at g l u y. read_release s r p k q m x t n at g u) (λ x t n z at g. refl)
     h.releases rest (behind_tolerance h w rest) w.releases refl (any_row h.releases) w.picked_once (le_refl _) go in
     let go-tolerances : Ends s v tt (counts r p k m) =
     run_all s v tolerance_octets (λ n. n ≤ 3) (λ n. 0) (λ n. 0) (λ n. 0) (4 + 10 * r + 8 * p + 35 * k) 2 1 (sum_of (λ n. 0) h.tolerances)
     (λ n z. full r p k n 0 m) (λ n z. 0) (omega arith) (λ x g. refl)
-    (λ x t (e : 6 ≡ 0). let z : ⊥ = omega arith in z)
+    (λ x t (e : 6 ≡ 0). omega arith)
     (λ x t n z at g l u q. read_tolerance s r p k m x t n at g u) (λ x t n z at g. refl)
     h.tolerances (joined release_octets h.releases ++ rest) at-t w.tolerances refl (any_row h.tolerances) w.once (le_refl _) go-releases in
     let go-items : Ends s v ti (counts r p 0 m) =
     run_all s v item_octets GoodItem (λ i. i.code) (λ i. suc i.code) (λ i. 0) (4 + 10 * r + 8 * p) 35 32 (sum_of (λ i. 0) h.items)
     (λ n z. counts r p n m) (λ n z. least_code s (counts r p n m)) (omega arith) ident_long
-    (λ i t (e : 4 ≡ 0). let z : ⊥ = omega arith in z)
+    (λ i t (e : 4 ≡ 0). omega arith)
     (λ i t n z at g l u q. read_ident s r p m i t n at g l u) (λ i t n z at g. next_ident s r p m i t n at g)
     h.items tt at-k w.items (none_coded s r p m) w.codes_rise w.few_items (le_refl _) go-tolerances in
     let go-parameters : Ends s v tp (counts r 0 0 m) =
     run_all s v parameter_octets (GoodParameter h.regions) (λ q. q.number) (λ q. suc q.number) (λ q. 0) (4 + 10 * r) 8 64 (sum_of (λ q. 0) h.parameters)
     (λ n z. counts r n 0 m) (λ n z. least_number s (counts r n 0 m)) (omega arith) (λ x g. refl)
-    (λ q t (e : 3 ≡ 0). let z : ⊥ = omega arith in z)
+    (λ q t (e : 3 ≡ 0). omega arith)
     (λ q t n z at g l u y. read_param s h.regions m same q t n at g l u) (λ q t n z at g. next_param s h.regions m same q t n at g)
     h.parameters ti at_p w.parameters (none_numbered s r m) w.numbers_rise w.few_parameters (le_refl _) go-items in
     let go-regions : Ends s v ta none =
     run_all s v region_octets GoodRegion (λ a. a.start) (λ a. a.start + a.length) (λ a. a.length) 4 10 32 65536
     (λ n z. counts n 0 0 z) (λ n z. end_before s (counts n 0 0 z)) (omega arith) (λ x g. refl)
-    (λ a t (e : 2 ≡ 0). let z : ⊥ = omega arith in z)
+    (λ a t (e : 2 ≡ 0). omega arith)
     (read_area s) (next_area s)
     h.regions tp refl w.regions (none_before s) w.apart w.few_regions.0 w.few_regions.1 go-parameters in
     pick_ge _ _ short
     ∙ walk_on s s none v 4 none (link_read h.pdu h.l h.version h.profile ta w.l) (link_begins (link_kind h.pdu) (link_back h.pdu)) (omega arith) (omega arith)
     go-regions (suc (length s)) (omega arith)
 
-pub complete : (h : Sheet) → WellFormed h → verdict_of (sheet_octets h) ≡ Valid (layout_for h)
+pub complete : (h : Sheet) → WellFormed h → verdict_of (sheet_octets h) ≡ Ok (layout_for h)
 unfolding layout_of
 complete h w =
     let s = sheet_octets h in
@@ -216,5 +215,5 @@ complete h w =
       release = v i;
       memory = room h.regions;
     } in
-    come_behind h w end (Valid (layout_for h)) (omega (arith, la, lp, lk, lt, lr, w.few_regions.0, w.few_parameters, w.few_items, w.once, w.picked_once))
-    (subst (λ (lay : Layout). Ends s (Valid lay) end (counts_for h)) same (end_read s (counts_for h) (omega arith)))
+    come_behind h w end (Ok (layout_for h)) (omega (arith, la, lp, lk, lt, lr, w.few_regions.0, w.few_parameters, w.few_items, w.once, w.picked_once))
+    (subst (λ (lay : Layout). Ends s (Ok lay) end (counts_for h)) same (end_read s (counts_for h) (omega arith)))

@@ -102,5 +102,5 @@ listed_none g d = refl
 
 pub listed_first : (g : ℕ → ℕ) (n d : ℕ) → 1 ≤ n → get_or (listed g 0 n) 0 d ≡ g 0
 unfolding listed
-listed_first g zero d h = absurd (let k : ⊥ = omega arith in k)
+listed_first g zero d h = absurd (omega arith)
 listed_first g (suc n) d h = refl

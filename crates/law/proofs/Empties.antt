@@ -12,9 +12,6 @@ use Rattle.law.proofs.Laid.{when_yes, when_no}
 use Rattle.law.proofs.Merge.{Shaped, both, beside, merge}
 use Rattle.law.proofs.Ranks.{when_cases, same_key, bits_self, same_entry}
 
-no_change : {c : Change} {l : List Change} {Z : Type 0} → c ∷ l ≡ [] → Z
-no_change e = let z : ◌≡◌ {A = ℕ} 0 1 = cc in absurd (let w : ⊥ = omega arith in w)
-
 -- two records at one place that make no change are one
 both_none : (x y : Entry) (l : List Change) → rank_of x ≡ rank_of y → Shaped x → Shaped y → both x y ++ l ≡ [] → (x ≡ y) × (l ≡ [])
 unfolding both
@@ -25,21 +22,21 @@ both_none x y l e s t =
     let key = same_key x.kind x.key y.key (e ∙ ap (λ (n : ℕ). rank n y.key) (sym k)) in
     when_cases (λ (m : List Change). m ++ l ≡ [] → (x ≡ y) × (l ≡ [])) (eqb (bits_of x y) 0)
     (λ u h. (same_entry x y s t k key (eqb-true (bits_of x y) 0 u), h))
-    (λ u h. no_change h))
-    (λ z h. no_change h)
+    (λ u h. cc))
+    (λ z h. cc)
 
 empty_same : (xs ys : List Entry) → Every Shaped xs → Every Shaped ys → merge xs ys ≡ [] → xs ≡ ys
 unfolding merge beside
 empty_same [] [] s t = λ e. refl
-empty_same [] (y ∷ ys) s t = λ e. no_change e
-empty_same (x ∷ xs) [] s t = λ e. no_change e
+empty_same [] (y ∷ ys) s t = λ e. cc
+empty_same (x ∷ xs) [] s t = λ e. cc
 empty_same (x ∷ xs) (y ∷ ys) s t =
     when_cases (λ (m : List Change). m ≡ [] → x ∷ xs ≡ y ∷ ys) (ltb (rank_of x) (rank_of y))
-    (λ a h. no_change h)
+    (λ a h. cc)
     (λ a.
     let l = ltb-false (rank_of x) (rank_of y) a in
     when_cases (λ (m : List Change). m ≡ [] → x ∷ xs ≡ y ∷ ys) (ltb (rank_of y) (rank_of x))
-    (λ b h. no_change h)
+    (λ b h. cc)
     (λ b h.
     let m = ltb-false (rank_of y) (rank_of x) b in
     let q = both_none x y (merge xs ys) (omega arith) s.0 t.0 h in

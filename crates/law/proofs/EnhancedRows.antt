@@ -20,11 +20,12 @@ use Rattle.link.specs.declared.state.LinkState.{LinkState}
 use Rattle.link.proofs.Facts.{Facts}
 use Rattle.machine.specs.Codes.{is_known, is_allowed}
 use Rattle.machine.specs.Connecting.{profile_fits, connect_of}
+use Rattle.machine.specs.Judgements.{Judgement}
 use Rattle.machine.specs.Judging.{alarms_of, element_of, memory_of, data_of, judge_of}
 use Rattle.machine.specs.Spans.{right_of, span_of}
+use Rattle.machine.specs.declared.codes.Alarm.TheVariants.{OutOfRange}
 use Rattle.machine.specs.declared.words.Carrier.TheVariants.{Parameter, Memory}
 use Rattle.machine.specs.declared.words.Effect.TheVariants.{Identifies, Alarms, Connects}
-use Rattle.machine.specs.declared.words.Judgement.{Judgement}
 use Rattle.regions.specs.Region.{gives_of}
 use Rattle.regions.specs.declared.Region.{Region}
 use Rattle.sheet.specs.declared.walk.Form.TheVariants.{Enhanced}
@@ -106,8 +107,8 @@ module _ (h : Sheet) (sheet : List ℕ) (st : LinkState) (m c : List ℕ) (facts
     alarms_row : Here (alarms_of lay st (named Enhanced k c)) (checked s (take 2 (row_at 4).checks) (row_at 4))
     unfolding alarms_of checked
     alarms_row =
-        step enhanced h sheet st m c facts on world good asked (wdt_same enhanced (code c) c) _ _ 9 whole_at (less_not h.l _) (λ l.
-        step enhanced h sheet st m c facts on world good asked (wdt_same enhanced (code c) c) _ _ 9 alarm_mode_at (ap (λ (x : ℕ). not (eqb x 0)) (two_enhanced c _ ∙ two_octets c _)) (λ z.
+        step enhanced h sheet st m c facts on world good asked (wdt_same enhanced (code c) c) _ _ OutOfRange whole_at (less_not h.l _) (λ l.
+        step enhanced h sheet st m c facts on world good asked (wdt_same enhanced (code c) c) _ _ OutOfRange alarm_mode_at (ap (λ (x : ℕ). not (eqb x 0)) (two_enhanced c _ ∙ two_octets c _)) (λ z.
         doing enhanced h sheet st m c facts on world good asked (wdt_same enhanced (code c) c) (Alarms st.latches.command st.latches.communication) st (kept enhanced h sheet st m c facts on world good asked (wdt_same enhanced (code c) c)) alarms_body
         (alarms_keep Enhanced c m st.latches.command st.latches.communication ∙ unmoved enhanced h sheet st m c facts on world good asked (wdt_same enhanced (code c) c))))
 
@@ -116,7 +117,7 @@ module _ (h : Sheet) (sheet : List ℕ) (st : LinkState) (m c : List ℕ) (facts
     unfolding profile_fits checked
     connects_row ok =
         connect_row enhanced h sheet st m c facts on world good asked (wdt_same enhanced (code c) c) k 0 [] [] [] (take 1 (drop 3 (row_at 7).checks)) (row_at 7) (λ three.
-        step enhanced h sheet st m c facts on world good asked (wdt_same enhanced (code c) c) _ _ 9 profile_at (ap (λ (x : ℕ). not (eqb x h.profile)) (is_enhanced _)) (λ e.
+        step enhanced h sheet st m c facts on world good asked (wdt_same enhanced (code c) c) _ _ OutOfRange profile_at (ap (λ (x : ℕ). not (eqb x h.profile)) (is_enhanced _)) (λ e.
         doing enhanced h sheet st m c facts on world good asked (wdt_same enhanced (code c) c) Connects _ (connect_goes mn st facts on _ _ three ok) connects_body (connects_keep Enhanced c m ∙ unmoved enhanced h sheet st m c facts on world good asked (wdt_same enhanced (code c) c))))
 
     -- 1D MEM_RD, 1E MEM_WR
@@ -131,9 +132,9 @@ module _ (h : Sheet) (sheet : List ℕ) (st : LinkState) (m c : List ℕ) (facts
         let x = d.offset in
         let el : element_of d.mode ≡ element x = ap element_of (is_enhanced x) ∙ elements x in
         let sp : d.count * element_of d.mode ≡ n = ap₂ ◌*◌ (two_enhanced c _ ∙ two_octets c _) el in
-        step enhanced h sheet st m c facts on world good asked (wdt_same enhanced (code c) c) _ _ 9 mode_at (ap (λ (n : ℕ). eqb n 0) el ∙ none_not (element x)) (λ a.
-        step enhanced h sheet st m c facts on world good asked (wdt_same enhanced (code c) c) _ _ 9 count_at (ap (λ (n : ℕ). eqb n 0) sp ∙ none_not n) (λ b.
-        step enhanced h sheet st m c facts on world good asked (wdt_same enhanced (code c) c) _ _ 9 count_at (ap (ltb _) sp ∙ less_not _ n) (λ f.
+        step enhanced h sheet st m c facts on world good asked (wdt_same enhanced (code c) c) _ _ OutOfRange mode_at (ap (λ (n : ℕ). eqb n 0) el ∙ none_not (element x)) (λ a.
+        step enhanced h sheet st m c facts on world good asked (wdt_same enhanced (code c) c) _ _ OutOfRange count_at (ap (λ (n : ℕ). eqb n 0) sp ∙ none_not n) (λ b.
+        step enhanced h sheet st m c facts on world good asked (wdt_same enhanced (code c) c) _ _ OutOfRange count_at (ap (ltb _) sp ∙ less_not _ n) (λ f.
         via enhanced h sheet st m c facts on world good asked (wdt_same enhanced (code c) c) (ap (λ (rs : List Region). span_of writes rs Memory d.address (d.count * element_of d.mode) st) world.regions)
         (via enhanced h sheet st m c facts on world good asked (wdt_same enhanced (code c) c) (ap₂ (λ (at n : ℕ). span_of writes (map as_region h.regions) Memory at n st) (is_enhanced _ ∙ four_octets c _) sp)
         (span_row enhanced h sheet st m c facts on world good asked (wdt_same enhanced (code c) c) Memory (echo_in 9) (from_in 9) memory_lays writes right (address h s m c) n same

@@ -6,19 +6,18 @@ use Prim.Native.Nat.{ℕ, zero, suc, ◌+◌, ◌*◌, ◌≤◌, ◌<◌}
 use native.Mathlib.Omega.{arith}
 use lib.ListN.{length, get_or, take, drop, length-append}
 use lib.Seq.{get_or-drop, drop_at, drop-drop}
+use Rattle.std.specs.Prelude.{Err}
 use Rattle.octets.proofs.Pick.{pick_yes, pick_lt, pick_ge}
 use Rattle.regions.specs.Region.{region_at, regions_of, listed}
 use Rattle.sheet.specs.Entries.{parameter_at}
 use Rattle.sheet.specs.Faults.{number_of}
 use Rattle.sheet.specs.Kinds.{is_kind, size_of, misplaced_of}
 use Rattle.sheet.specs.Reading.{body_of, record_of}
+use Rattle.sheet.specs.Told.{reads, Verdict, faulty}
 use Rattle.sheet.specs.Walk.{none, place_of, ended_of, onward, walk_of, verdict_of}
 use Rattle.sheet.specs.declared.records.Counts.{Counts}
 use Rattle.sheet.specs.declared.records.Fault.{Fault}
 use Rattle.sheet.specs.declared.records.Fault.TheVariants.{Ended, Misplaced}
-use Rattle.sheet.specs.declared.records.Reading.TheVariants.{Record, Bad}
-use Rattle.sheet.specs.declared.walk.Verdict.{Verdict}
-use Rattle.sheet.specs.declared.walk.Verdict.TheVariants.{Faulty}
 use Rattle.law.specs.Words.{Every, joined}
 use Rattle.law.specs.Sheet.{Sheet, GoodRegion, GoodParameter, GoodItem, GoodRelease, WellFormed, IsOctet, region_octets, parameter_octets, item_octets, tolerance_octets, release_octets, written, room}
 use Rattle.law.specs.Faults.{Sofar, nothing, records, before, GoodSofar, AfterEnd, RecordFault, FaultAt, FirstFault}
@@ -82,26 +81,26 @@ read_back h rest w =
     (λ x t n at g. sym (get_or-drop (b₇ + 2 * n) s 1 0) ∙ ap (λ (l : List ℕ). get_or l 1 0) at) h.releases rest (behind_tolerance h w rest) w.releases in
     λ i. record { pdu = kind_pdu h.pdu i; l = h.l; version = h.version; profile = h.profile; regions = a i; parameters = b i; items = c i; tolerances = d i; releases = f i }
 
-bad_ends : (s rest : List ℕ) (so : Counts) (f : Fault) → record_of s rest so ≡ Bad f → Ends s (Faulty f (place_of s rest)) rest so
+bad_ends : (s rest : List ℕ) (so : Counts) (f : Fault) → record_of s rest so ≡ Err f → Ends s (faulty f (place_of s rest)) rest so
 unfolding walk_of onward
-bad_ends s rest so f e zero h = absurd (let k : ⊥ = omega arith in k)
+bad_ends s rest so f e zero h = absurd (omega arith)
 bad_ends s rest so f e (suc n) h = rw e
 
-after_ends : (s body : List ℕ) (so : Counts) → length (0 ∷ body) < length s → 1 ≤ length body → Ends s (Faulty Misplaced (place_of s (0 ∷ body) + 1)) (0 ∷ body) so
+after_ends : (s body : List ℕ) (so : Counts) → length (0 ∷ body) < length s → 1 ≤ length body → Ends s (faulty Misplaced (place_of s (0 ∷ body) + 1)) (0 ∷ body) so
 unfolding walk_of onward body_of size_of is_kind misplaced_of ended_of
-after_ends s body so l u zero h = absurd (let k : ⊥ = omega arith in k)
+after_ends s body so l u zero h = absurd (omega arith)
 after_ends s body so l u (suc n) h =
-    let e : record_of s (0 ∷ body) so ≡ Record 1 so =
+    let e : record_of s (0 ∷ body) so ≡ reads 1 so =
     behind_link s 0 1 body so l refl refl (pick_yes _ _ refl) (omega arith) ∙ pick_yes _ _ refl in
     let some : 1 < length (0 ∷ body) = omega arith in
     rw e (pick_yes _ _ refl ∙ pick_lt _ _ some)
 
-after_end : (s rest : List ℕ) (so : Counts) → length rest < length s → get_or rest 0 0 ≡ 0 → 2 ≤ length rest → Ends s (Faulty Misplaced (place_of s rest + 1)) rest so
-after_end s [] so l z u = absurd (let k : ⊥ = omega arith in k)
+after_end : (s rest : List ℕ) (so : Counts) → length rest < length s → get_or rest 0 0 ≡ 0 → 2 ≤ length rest → Ends s (faulty Misplaced (place_of s rest + 1)) rest so
+after_end s [] so l z u = absurd (omega arith)
 after_end s (x ∷ body) so l z u =
-    subst (λ (y : ℕ). Ends s (Faulty Misplaced (place_of s (y ∷ body) + 1)) (y ∷ body) so) (sym z) (after_ends s body so l (omega arith))
+    subst (λ (y : ℕ). Ends s (faulty Misplaced (place_of s (y ∷ body) + 1)) (y ∷ body) so) (sym z) (after_ends s body so l (omega arith))
 
-octets_behind : (xs t : List ℕ) → Every IsOctet (xs ++ t) → Every IsOctet t
+pub octets_behind : (xs t : List ℕ) → Every IsOctet (xs ++ t) → Every IsOctet t
 octets_behind [] t o = o
 octets_behind (x ∷ xs) t o = octets_behind xs t o.1
 
@@ -124,7 +123,7 @@ written_longer h rest =
 exact_at : (x : Sofar) (rest : List ℕ) (f : Fault) (place : ℕ) → GoodSofar x → Every IsOctet (before x rest) → length (before x rest) ≤ 2048
     → ((place + length rest ≡ length (before x rest)) × RecordFault x rest (number_of f))
     ⊎ (AfterEnd x rest × (number_of f ≡ 13) × (place + length rest ≡ length (before x rest) + 1))
-    → verdict_of (before x rest) ≡ Faulty f place
+    → verdict_of (before x rest) ≡ faulty f place
 unfolding verdict_of number_of
 exact_at nothing rest f place good o short which =
     ⊎_elim
@@ -132,7 +131,7 @@ exact_at nothing rest f place good o short which =
     let e : place_of rest rest ≡ place = omega (arith, c.0) in
     pick_ge _ _ short
     ∙ bad_ends rest rest none f ((first_fault rest rest o f refl).1 c.1) (suc (length rest)) (omega arith)
-    ∙ ap (Faulty f) e)
+    ∙ ap (faulty f) e)
     (λ (c : ⊥ × (number_of f ≡ 13) × (place + length rest ≡ length rest + 1)). absurd c.0)
     which
 exact_at (records h) rest f place good o short which =
@@ -143,25 +142,25 @@ exact_at (records h) rest f place good o short which =
     ⊎_elim
     (λ (c : (place + length rest ≡ length s) × RecordFault (records h) rest (number_of f)).
     let e : place_of s rest ≡ place = omega (arith, c.0) in
-    let bad : record_of s rest so ≡ Bad f =
+    let bad : record_of s rest so ≡ Err f =
     (later_fault s rest (written_octets h rest o) f so (subst WellFormed (sym back) good) (ap (λ (x : Sheet). room x.regions) back)
-    (λ (q : length rest ≡ length s). let k : ⊥ = omega arith in k)).1
+    (λ (q : length rest ≡ length s). omega arith)).1
     (subst (λ (x : Sheet). RecordFault (records x) rest (number_of f)) (sym back) c.1) in
-    come_behind h good rest (Faulty f place) short (subst (λ (k : ℕ). Ends s (Faulty f k) rest so) e (bad_ends s rest so f bad)))
+    come_behind h good rest (faulty f place) short (subst (λ (k : ℕ). Ends s (faulty f k) rest so) e (bad_ends s rest so f bad)))
     (λ (c : ((get_or rest 0 0 ≡ 0) × (2 ≤ length rest)) × (number_of f ≡ 13) × (place + length rest ≡ length s + 1)).
     let e : place_of s rest + 1 ≡ place = omega (arith, c.2) in
     let g : Misplaced ≡ f = same_number (sym c.1) in
-    come_behind h good rest (Faulty f place) short
-    (subst (λ (v : Verdict). Ends s v rest so) (ap₂ Faulty g e) (after_end s rest so longer c.0.0 c.0.1)))
+    come_behind h good rest (faulty f place) short
+    (subst (λ (v : Verdict). Ends s v rest so) (ap₂ faulty g e) (after_end s rest so longer c.0.0 c.0.1)))
     which
 
-pub told_fault : (s : List ℕ) (f : Fault) (place : ℕ) → Every IsOctet s → FirstFault s (number_of f) place → verdict_of s ≡ Faulty f place
+pub told_fault : (s : List ℕ) (f : Fault) (place : ℕ) → Every IsOctet s → FirstFault s (number_of f) place → verdict_of s ≡ faulty f place
 unfolding verdict_of number_of
 told_fault s f place o t =
     ⊎_elim
     (λ (c : (2048 < length s) × (number_of f ≡ 11) × (place ≡ 0)).
     let g : Ended ≡ f = same_number (sym c.1) in
-    pick_lt _ _ c.0 ∙ ap₂ Faulty g (sym c.2))
+    pick_lt _ _ c.0 ∙ ap₂ faulty g (sym c.2))
     (λ (c : (length s ≤ 2048) × FaultAt s (number_of f) place).
     let q = c.1 in
     let e = q.split in

@@ -7,6 +7,7 @@ use native.Mathlib.Omega.{arith}
 use borrow.Author.Tests.{ltb-true}
 use lib.Dec.{eqb, ltb}
 use lib.ListN.{length}
+use Rattle.std.proofs.lemmas.Bool.{and_parts}
 use Rattle.octets.specs.Pick.{pick}
 use Rattle.frame.specs.Unnamed.{stray_as}
 use Rattle.frame.proofs.Bodies.{quiet_at}
@@ -22,12 +23,12 @@ use Rattle.link.specs.Steps.{follows_of, lost, tolerated}
 use Rattle.link.specs.Stored.{octets_of}
 use Rattle.link.specs.declared.state.LinkState.{LinkState}
 use Rattle.link.proofs.Facts.{Facts}
+use Rattle.machine.specs.Judgements.{Judgement}
 use Rattle.machine.specs.Judging.{judge_of}
 use Rattle.machine.specs.Outcomes.{comes_to, finished, missed_of, outcome_of}
 use Rattle.machine.specs.declared.words.Command.{Command}
 use Rattle.machine.specs.declared.words.Effect.TheVariants.{Quiet}
 use Rattle.machine.specs.declared.words.Field.TheVariants.{Whole}
-use Rattle.machine.specs.declared.words.Judgement.{Judgement}
 use Rattle.machine.specs.declared.words.Outcome.{Outcome}
 use Rattle.sheet.specs.declared.walk.Form.{Form}
 use Rattle.slave.specs.Exchange.{outcome_for}
@@ -38,10 +39,6 @@ use Rattle.law.proofs.Layouts.{form_for, release_for, layout_as, layout_for}
 use Rattle.law.proofs.Rows.{Same, J, unmoved}
 use Rattle.law.proofs.ShortRows.{judge_short}
 use Rattle.law.proofs.World.{World}
-
-and_first : (a b : Bool) → a && b ≡ true → a ≡ true
-and_first true b e = refl
-and_first false b e = e
 
 -- the table of either type
 judge_same : (pdu : PduType) (h : Sheet) (sheet : List ℕ) (st : LinkState) (m c : List ℕ) (facts : Facts h.l (most h) st) (on : st.link ≡ 0 → ⊥)
@@ -54,7 +51,7 @@ judge_same short = judge_short
 follows : (known : ℕ) → known ≤ 1 → (b : Bool) → not (eqb known 0 || b) ≡ eqb known 1 && not b
 follows zero l b = refl
 follows (suc zero) l b = refl
-follows (suc (suc n)) l b = absurd (let w : ⊥ = omega arith in w)
+follows (suc (suc n)) l b = absurd (omega arith)
 
 module _ (h : Sheet) (sheet : List ℕ) (st : LinkState) (m c : List ℕ) (facts : Facts h.l (most h) st) (on : st.link ≡ 0 → ⊥) (world : World h sheet m)
     (good : GoodLength h.pdu h.l) (asked : length c ≡ h.l) where
@@ -104,7 +101,7 @@ module _ (h : Sheet) (sheet : List ℕ) (st : LinkState) (m c : List ℕ) (facts
       let u = stray_as form (release_for h) (code c) c in
       subst (λ (b : Bool). Alike (pick (eqb st.link 3 && b) (comes_to 0 Whole Quiet (missed_of (most h) st mn)) (finished st n (judge_of sheet (layout_for h) st n u))) (fate_of h s m c))
       (sym (follows st.watch.known facts.known (eqb mn ((st.watch.last + 1) % 16) && eqb sn st.watch.rsn)))
-      (lost_or _ (λ e. and_first _ _ e) (judge_same h.pdu h sheet st m c facts on world good asked (code c)))
+      (lost_or _ (λ e. (and_parts _ _ e).0) (judge_same h.pdu h sheet st m c facts on world good asked (code c)))
 
   named_same : Alike (outcome_of sheet (layout_for h) st (named form (code c) c) (stray_as form (release_for h) (code c) c)) (fate_of h s m c)
   unfolding outcome_of

@@ -3,11 +3,13 @@ use mathlib.Core.Bool.{Bool, true, false, not, ◌&&◌, ◌||◌}
 use mathlib.Core.Logic.{◌⊎◌, inl, inr, ⊎_elim}
 use mathlib.Core.Path.{◌≡◌, refl, sym, ap, ap₂, subst, ◌∙◌}
 use mathlib.Core.List.{List, [], ◌∷◌, map}
-use Prim.Native.Nat.{ℕ, zero, suc, ◌+◌, ◌*◌, ◌/◌, ◌%◌, ◌≤◌, ◌<◌}
+use Prim.Native.Nat.{ℕ, suc, ◌+◌, ◌*◌, ◌/◌, ◌%◌, ◌≤◌, ◌<◌}
 use native.Mathlib.Omega.{arith}
 use borrow.Author.Tests.{lt-ltb, le-ltb, le-leb, lt-leb, eq-eqb, ne_eqb}
 use lib.Dec.{eqb, leb, ltb}
 use lib.ListN.{get_or}
+use Rattle.std.specs.Prelude.{None, Some}
+use Rattle.std.proofs.lemmas.Bool.{and_left, and_right, agree_below_at}
 use Rattle.octets.specs.Numbers.{le2_at, le4_at}
 use Rattle.octets.proofs.Cases.{lt_or_le, eq_or_ne}
 use Rattle.law.specs.Words.{number_at, one_of, bit}
@@ -17,7 +19,6 @@ use Rattle.machine.specs.Connecting.{com_mod_fits, com_time_fits}
 use Rattle.machine.specs.Judging.{element_of}
 use Rattle.octets.proofs.Pick.{pick_yes, pick_no, pick_eq, pick_ne, pick_differ, pick_same}
 use Rattle.sheet.specs.Entries.{sought, sought_parameter}
-use Rattle.sheet.specs.declared.entries.SoughtParameter.{SoughtParameter}
 use Rattle.law.proofs.Laid.{when_yes, when_no}
 use Rattle.law.proofs.Layouts.{as_parameter}
 
@@ -31,8 +32,7 @@ less_most {most} {other} n e = less_not other n ∙ ap (λ (k : ℕ). not (leb n
 
 pub none_not : (n : ℕ) → eqb n 0 ≡ not (leb 1 n)
 none_not n =
-    ⊎_elim (λ (e : n ≡ 0). eq-eqb n 0 e ∙ ap not (sym (lt-leb 1 n (omega arith)))) (λ (e : n ≡ 0 → ⊥). ne_eqb n 0 e ∙ ap not (sym (le-leb 1 n (
-    ⊎_elim (λ (l : n < 1). absurd (e (omega arith))) (λ (l : 1 ≤ n). l) (lt_or_le n 1)))))
+    ⊎_elim (λ (e : n ≡ 0). eq-eqb n 0 e ∙ ap not (sym (lt-leb 1 n (omega arith)))) (λ (e : n ≡ 0 → ⊥). ne_eqb n 0 e ∙ ap not (sym (le-leb 1 n (omega arith))))
     (eq_or_ne n 0)
 
 pub two_octets : (c : List ℕ) (i : ℕ) → le2_at c i ≡ number_at c i 2
@@ -41,28 +41,7 @@ two_octets c i = ap (λ (n : ℕ). get_or c i 0 + 256 * n) (ap (λ (k : ℕ). ge
 -- com_mod
 small : (x : ℕ) → x < 16 → com_mod_fits x ≡ com_mod x
 unfolding com_mod_fits
-small zero l = refl
-small (suc zero) l = refl
-small (suc (suc zero)) l = refl
-small (suc (suc (suc zero))) l = refl
-small (suc (suc (suc (suc zero)))) l = refl
-small (suc (suc (suc (suc (suc zero))))) l = refl
-small (suc (suc (suc (suc (suc (suc zero)))))) l = refl
-small (suc (suc (suc (suc (suc (suc (suc zero))))))) l = refl
-small (suc (suc (suc (suc (suc (suc (suc (suc zero)))))))) l = refl
-small (suc (suc (suc (suc (suc (suc (suc (suc (suc zero))))))))) l = refl
-small (suc (suc (suc (suc (suc (suc (suc (suc (suc (suc zero)))))))))) l = refl
-small (suc (suc (suc (suc (suc (suc (suc (suc (suc (suc (suc zero))))))))))) l = refl
-small (suc (suc (suc (suc (suc (suc (suc (suc (suc (suc (suc (suc zero)))))))))))) l = refl
-small (suc (suc (suc (suc (suc (suc (suc (suc (suc (suc (suc (suc (suc zero))))))))))))) l = refl
-small (suc (suc (suc (suc (suc (suc (suc (suc (suc (suc (suc (suc (suc (suc zero)))))))))))))) l = refl
-small (suc (suc (suc (suc (suc (suc (suc (suc (suc (suc (suc (suc (suc (suc (suc zero))))))))))))))) l = refl
-small (suc (suc (suc (suc (suc (suc (suc (suc (suc (suc (suc (suc (suc (suc (suc (suc x)))))))))))))))) l = absurd (let w : ⊥ = omega arith in w)
-
-second_fails : (a b c d : Bool) → b ≡ false → a && b && c && d ≡ false
-second_fails true true c d e = absurd (let z : ◌≡◌ {A = ℕ} 0 1 = cc in let v : ⊥ = omega arith in v)
-second_fails true false c d e = refl
-second_fails false b c d e = refl
+small x l = agree_below_at com_mod_fits com_mod 16 x refl l
 
 not_mods : (x : ℕ) → (x ≡ 0 → ⊥) → (x ≡ 2 → ⊥) → (x ≡ 6 → ⊥) → com_mod x ≡ false
 not_mods x z y w = ap₂ ◌||◌ (ne_eqb x 0 z) (ap₂ ◌||◌ (ne_eqb x 2 y) (ap (λ (b : Bool). b || false) (ne_eqb x 6 w)))
@@ -71,15 +50,15 @@ pub com_mod_lem : (x : ℕ) → com_mod_fits x ≡ com_mod x
 unfolding com_mod_fits
 com_mod_lem x =
     ⊎_elim (λ (l : x < 16). small x l) (λ (l : 16 ≤ x).
-    let q : eqb (x / 16) 0 ≡ false = ne_eqb (x / 16) 0 (λ e. let w : ⊥ = omega arith in w) in
-    second_fails (eqb (x % 2) 0) (eqb (x / 16) 0) (leb (x / 4 % 4) 1) (eqb (x / 4 % 4) 0 || eqb (x / 2 % 2) 1) q
-    ∙ sym (not_mods x (λ e. let w : ⊥ = omega arith in w) (λ e. let w : ⊥ = omega arith in w) (λ e. let w : ⊥ = omega arith in w))) (lt_or_le x 16)
+    let q : eqb (x / 16) 0 ≡ false = ne_eqb (x / 16) 0 (λ e. omega arith) in
+    and_left _ _ (and_left _ _ (and_right (eqb (x % 2) 0) _ q))
+    ∙ sym (not_mods x (λ e. omega arith) (λ e. omega arith) (λ e. omega arith))) (lt_or_le x 16)
 
 pub com_mods : (x : ℕ) → com_mod x ≡ true → (x ≡ 0) ⊎ ((x ≡ 2) ⊎ (x ≡ 6))
 com_mods x e =
     ⊎_elim (λ (z : x ≡ 0). inl z) (λ (z : x ≡ 0 → ⊥). ⊎_elim (λ (y : x ≡ 2). inr (inl y)) (λ (y : x ≡ 2 → ⊥). ⊎_elim (λ (w : x ≡ 6). inr (inr w)) (λ (w : x ≡ 6 → ⊥).
     let q : com_mod x ≡ false = not_mods x z y w in
-    absurd (let z : ◌≡◌ {A = ℕ} 0 1 = cc in let v : ⊥ = omega arith in v)) (eq_or_ne x 6)) (eq_or_ne x 2)) (eq_or_ne x 0)
+    cc) (eq_or_ne x 6)) (eq_or_ne x 2)) (eq_or_ne x 0)
 
 pub com_time_lem : (x t : ℕ) → (x ≡ 0) ⊎ ((x ≡ 2) ⊎ (x ≡ 6)) → com_time_fits x t ≡ leb 1 t && (not (bit x 2) || leb 2 t)
 unfolding com_time_fits
@@ -89,25 +68,25 @@ com_time_lem x t three =
 
 -- the parameter of a number
 pub param_found : (ps : List Param) (n : ℕ) → one_of n (map (λ (p : Param). p.number) ps) ≡ true
-    → sought_parameter (map as_parameter ps) n ≡ SoughtParameter.Found (as_parameter (param_of ps n))
+    → sought_parameter (map as_parameter ps) n ≡ Some (as_parameter (param_of ps n))
 unfolding sought param_of
-param_found [] n e = absurd (let z : ◌≡◌ {A = ℕ} 0 1 = cc in let v : ⊥ = omega arith in v)
+param_found [] n e = cc
 param_found (p ∷ ps) n e =
-    ⊎_elim (λ (q : p.number ≡ n). pick_eq _ _ q ∙ ap (λ (x : Param). SoughtParameter.Found (as_parameter x)) (sym (when_yes _ _ (eq-eqb p.number n q))))
+    ⊎_elim (λ (q : p.number ≡ n). pick_eq _ _ q ∙ ap (λ (x : Param). Some (as_parameter x)) (sym (when_yes _ _ (eq-eqb p.number n q))))
     (λ (q : p.number ≡ n → ⊥).
     let f : eqb n p.number ≡ false = ne_eqb n p.number (λ x. q (sym x)) in
     pick_ne _ _ q ∙ param_found ps n (sym (ap (λ (b : Bool). b || one_of n (map (λ (p : Param). p.number) ps)) f) ∙ e)
-    ∙ ap (λ (x : Param). SoughtParameter.Found (as_parameter x)) (sym (when_no _ _ (ne_eqb p.number n q))))
+    ∙ ap (λ (x : Param). Some (as_parameter x)) (sym (when_no _ _ (ne_eqb p.number n q))))
     (eq_or_ne p.number n)
 
 pub param_missing : (ps : List Param) (n : ℕ) → one_of n (map (λ (p : Param). p.number) ps) ≡ false
-    → sought_parameter (map as_parameter ps) n ≡ SoughtParameter.Missing
+    → sought_parameter (map as_parameter ps) n ≡ None
 unfolding sought
 param_missing [] n e = refl
 param_missing (p ∷ ps) n e =
     ⊎_elim (λ (q : p.number ≡ n). absurd (let f = eq-eqb n p.number (sym q) in
     let g : true ≡ false = sym (ap (λ (b : Bool). b || one_of n (map (λ (p : Param). p.number) ps)) f) ∙ e in
-    let z : ◌≡◌ {A = ℕ} 0 1 = cc in let v : ⊥ = omega arith in v))
+    cc))
     (λ (q : p.number ≡ n → ⊥).
     let f : eqb n p.number ≡ false = ne_eqb n p.number (λ x. q (sym x)) in
     pick_ne _ _ q ∙ param_missing ps n (sym (ap (λ (b : Bool). b || one_of n (map (λ (p : Param). p.number) ps)) f) ∙ e))

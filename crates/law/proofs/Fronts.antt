@@ -59,7 +59,7 @@ same_width kind =
 
 same_place : (kind : ℕ) → 1 ≤ kind → place_of kind ≡ order_of_kind kind
 unfolding place_of
-same_place kind h = pick_ne _ _ (λ (z : kind ≡ 0). let w : ⊥ = omega arith in w) ∙ picked (eqb kind 5) 1 kind
+same_place kind h = pick_ne _ _ (λ (z : kind ≡ 0). omega arith) ∙ picked (eqb kind 5) 1 kind
 
 low_place : (kind : ℕ) → kind ≤ 7 → order_of_kind kind ≤ 7
 low_place kind h = subst (λ (n : ℕ). n ≤ 7) (picked (eqb kind 5) 1 kind) (pick_cases (λ n. n ≤ 7) (eqb kind 5) (λ e. omega arith) (λ e. h))

@@ -23,7 +23,7 @@ in_links P a b c zero h z = absurd (z refl)
 in_links P a b c (suc zero) h z = a
 in_links P a b c (suc (suc zero)) h z = b
 in_links P a b c (suc (suc (suc zero))) h z = c
-in_links P a b c (suc (suc (suc (suc n)))) h z = absurd (let w : ⊥ = omega arith in w)
+in_links P a b c (suc (suc (suc (suc n)))) h z = absurd (omega arith)
 
 abbrev one : ℕ → ℕ → ℕ → LinkState
 one l ca co = record { link = 1; l = l; dual = 0; com_time = 0; watch = idle; latches = record { command = ca; communication = co } }
@@ -47,14 +47,14 @@ pub by_state : (P : LinkState → Type 0) → ((l ca co : ℕ) → P (one l ca c
 by_state P p₁ p₂ p₃ st f z =
     in_links (λ n. st.link ≡ n → P st)
     (λ e.
-    let u : st.link ≡ 3 → ⊥ = λ q. let w : ⊥ = omega arith in w in
+    let u : st.link ≡ 3 → ⊥ = λ q. omega arith in
     let t : st.com_time ≡ 0 = f.untimed (omega arith) in
     let d : st.dual ≡ 0 = f.single u in
     let w = f.unwatched u in
     subst P (λ i. record { link = sym e i; l = st.l; dual = sym d i; com_time = sym t i; watch = record { known = sym w.0 i; last = sym w.1 i; rsn = sym w.2 i; failures = sym w.3 i }; latches = st.latches })
     (p₁ st.l st.latches.command st.latches.communication))
     (λ e.
-    let u : st.link ≡ 3 → ⊥ = λ q. let w : ⊥ = omega arith in w in
+    let u : st.link ≡ 3 → ⊥ = λ q. omega arith in
     let d : st.dual ≡ 0 = f.single u in
     let w = f.unwatched u in
     subst P (λ i. record { link = sym e i; l = st.l; dual = sym d i; com_time = st.com_time; watch = record { known = sym w.0 i; last = sym w.1 i; rsn = sym w.2 i; failures = sym w.3 i }; latches = st.latches })
@@ -99,14 +99,11 @@ module _ (mn : ℕ) (st : LinkState) {l most : ℕ} (f : Facts l most st) (z : s
       by_state (λ st. Goes st (counting st (dropped st) mn) mn (piece 1 (1 ∷ []) ∷ piece 4 (0 ∷ []) ∷ []))
       (λ l ca co. refl) (λ l t ca co. refl) (λ l d t k s r n ca co. refl) st f z
 
-  never : {A : Type 0} → ◌≡◌ {A = Bool} false true → A
-  never e = absurd (let w : ◌≡◌ {A = ℕ} 0 1 = cc in let v : ⊥ = omega arith in v)
-
   pub goes_synced : one_of (link (octets_of st)) (2 ∷ []) ≡ true → Goes st (counting st (synced st) mn) mn (piece 1 (3 ∷ []) ∷ piece 3 (0 ∷ []) ∷ [])
   unfolding octets_of counting state_after watched pick when over_from laid
   goes_synced =
       by_state (λ st. one_of st.link (2 ∷ []) ≡ true → Goes st (counting st (synced st) mn) mn (piece 1 (3 ∷ []) ∷ piece 3 (0 ∷ []) ∷ []))
-      (λ l ca co e. never e) (λ l t ca co e. refl) (λ l d t k s r n ca co e. never e) st f z
+      (λ l ca co e. cc) (λ l t ca co e. refl) (λ l d t k s r n ca co e. cc) st f z
 
   pub goes_connected : (n dual time : ℕ) → (n ≡ 3) ⊎ (n ≡ 2) → one_of (link (octets_of st)) (1 ∷ []) ≡ true
       → Goes st (counting st (connected st n dual time) mn) mn (piece 1 (n ∷ []) ∷ piece 3 (dual ∷ []) ∷ piece 4 (time ∷ []) ∷ [])
@@ -116,7 +113,7 @@ module _ (mn : ℕ) (st : LinkState) {l most : ℕ} (f : Facts l most st) (z : s
       (λ l ca co e.
       let P : ℕ → Type 0 = λ n. Goes (one l ca co) (connected (one l ca co) n dual time) mn (piece 1 (n ∷ []) ∷ piece 3 (dual ∷ []) ∷ piece 4 (time ∷ []) ∷ []) in
       ⊎_elim (λ (q : n ≡ 3). subst P (sym q) refl) (λ (q : n ≡ 2). subst P (sym q) refl) ok)
-      (λ l t ca co e. never e) (λ l d t k s r n ca co e. never e) st f z
+      (λ l t ca co e. cc) (λ l d t k s r n ca co e. cc) st f z
 
   -- CONNECT by its com_mod
   pub connect_goes : (x time : ℕ) → (x ≡ 0) ⊎ ((x ≡ 2) ⊎ (x ≡ 6)) → one_of (link (octets_of st)) (1 ∷ []) ≡ true
@@ -134,13 +131,13 @@ module _ (mn : ℕ) (st : LinkState) {l most : ℕ} (f : Facts l most st) (z : s
   unfolding octets_of counting state_after watched pick when over_from laid
   goes_lost =
       by_state (λ st. eqb st.link 3 ≡ true → Moves st (lost st) mn (piece 1 (2 ∷ []) ∷ piece 9 (12 ∷ []) ∷ []))
-      (λ l ca co e. never e) (λ l t ca co e. never e) (λ l d t k s r n ca co e. refl) st f z
+      (λ l ca co e. cc) (λ l t ca co e. cc) (λ l d t k s r n ca co e. refl) st f z
 
   pub goes_tolerated : eqb (link (octets_of st)) 3 ≡ true → st.watch.failures < 255
       → Moves st (tolerated st mn) mn (piece 10 ((get_or (octets_of st) 10 0 + 1) ∷ []) ∷ [])
   unfolding octets_of state_after watched when over_from laid
   goes_tolerated =
       by_state (λ st. eqb st.link 3 ≡ true → st.watch.failures < 255 → Moves st (tolerated st mn) mn (piece 10 ((st.watch.failures + 1) ∷ []) ∷ []))
-      (λ l ca co e u. never e) (λ l t ca co e u. never e)
+      (λ l ca co e u. cc) (λ l t ca co e u. cc)
       (λ l d t k s r n ca co e u.
       ap (λ (x : ℕ). 0x12 ∷ 3 ∷ l ∷ d ∷ t ∷ 1 ∷ mn ∷ (r + 1) % 16 ∷ ca ∷ co ∷ x ∷ []) (let q : (n + 1) % 256 ≡ n + 1 = omega arith in q)) st f z

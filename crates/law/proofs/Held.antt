@@ -9,6 +9,7 @@ use native.Mathlib.Omega.{arith}
 use borrow.Author.Tests.{eqb-true, eq-eqb, ne_eqb}
 use lib.ListN.{length, get_or, take, drop, length-append}
 use lib.Seq.{ext_get_or, get_or-drop}
+use Rattle.std.proofs.lemmas.List.{take-append-drop}
 use Rattle.octets.specs.Parts.{part, put_at}
 use Rattle.octets.proofs.Cases.{decided, lt_or_le}
 use Rattle.octets.proofs.Pick.{pick_yes, pick_no, pick_ne}
@@ -17,7 +18,7 @@ use Rattle.law.specs.Sheet.{Region as Area, GoodRegion, room}
 use Rattle.law.specs.Memory.{Cell, cells_from, cells, stored, held_at, held}
 use Rattle.regions.specs.Apart.{Apart}
 use Rattle.regions.specs.Region.{holds_of}
-use Rattle.regions.specs.Search.{At, Nowhere, spot_of, place_in, before_of, span_has, total_of, span_place}
+use Rattle.regions.specs.Search.{At, spot_of, place_in, before_of, span_has, total_of, span_place}
 use Rattle.regions.specs.declared.Region.{Region}
 use Rattle.regions.specs.declared.Right.TheVariants.{Mapped}
 use Rattle.regions.proofs.Bounds.{holds_bounds}
@@ -44,7 +45,7 @@ length_cells (r ∷ rs) =
     length-append (cells_from r.start r.length r.rights) (cells rs) ∙ ap₂ ◌+◌ (length_run r.start r.length r.rights) (length_cells rs)
 
 run_here : (start n rights : ℕ) (rest : List Cell) (i : ℕ) → i < n → address_of (cells_from start n rights ++ rest) i ≡ start + i
-run_here start zero rights rest i l = absurd (let w : ⊥ = omega arith in w)
+run_here start zero rights rest i l = absurd (omega arith)
 run_here start (suc n) rights rest zero l = omega arith
 run_here start (suc n) rights rest (suc i) l = run_here (suc start) n rights rest i (omega arith) ∙ (let e : suc start + i ≡ start + suc i = omega arith in e)
 
@@ -53,20 +54,15 @@ run_past start zero rights rest i = ap (address_of rest) (let e : 0 + i ≡ i = 
 run_past start (suc n) rights rest i =
     ap (address_of (cells_from start (suc n) rights ++ rest)) (let e : suc n + i ≡ suc (n + i) = omega arith in e) ∙ run_past (suc start) n rights rest i
 
-no_spot : {p x : ℕ} → Nowhere ≡ At p x → ⊥
-no_spot e = let z : ◌≡◌ {A = ℕ} 0 1 = cc in omega arith
-
-same_place : {p q x y : ℕ} → At p x ≡ At q y → p ≡ q
-same_place e = cc
-
 -- the machine's place of an address is the cell that has it
 spot_address : (rs : List Area) (base a p x : ℕ) → spot_of (map as_region rs) base a ≡ At p x → base ≤ p → address_of (cells rs) (p - base) ≡ a
 unfolding spot_of holds_of
-spot_address [] base a p x e b = absurd (no_spot e)
+spot_address [] base a p x e b = cc
 spot_address (r ∷ rs) base a p x e b =
     ⊎_elim
     (λ (k : inside r.start r.length a ≡ true).
-    let q : base + (a - r.start) ≡ p = same_place (sym (pick_yes _ _ k) ∙ e) in
+    let at = sym (pick_yes _ _ k) ∙ e in
+    let q : base + (a - r.start) ≡ p = cc in
     let w = within k in
     let l : p - base < r.length = omega arith in
     run_here r.start r.length r.rights (cells rs) (p - base) l ∙ (let z : r.start + (p - base) ≡ a = omega arith in z))
@@ -87,7 +83,7 @@ Apart' end [] = Unit {0}
 Apart' end (r ∷ rs) = (end ≤ r.start) × (1 ≤ r.length) × Apart' (r.start + r.length) rs
 
 above : (end : ℕ) (rs : List Area) → Apart' end rs → (i : ℕ) → i < length (cells rs) → end ≤ address_of (cells rs) i
-above end [] d i l = absurd (let w : ⊥ = omega arith in w)
+above end [] d i l = absurd (omega arith)
 above end (r ∷ rs) d i l =
     let s = d.0 in
     ⊎_elim (λ (k : i < r.length). let e = run_here r.start r.length r.rights (cells rs) i k in omega arith)
@@ -101,7 +97,7 @@ above end (r ∷ rs) d i l =
     (lt_or_le i r.length)
 
 rises : (end : ℕ) (rs : List Area) → Apart' end rs → (i j : ℕ) → i < j → j < length (cells rs) → address_of (cells rs) i < address_of (cells rs) j
-rises end [] d i j l u = absurd (let w : ⊥ = omega arith in w)
+rises end [] d i j l u = absurd (omega arith)
 rises end (r ∷ rs) d i j l u =
     let a = length-append (cells_from r.start r.length r.rights) (cells rs) in
     let b = length_run r.start r.length r.rights in
@@ -140,12 +136,12 @@ places_from rs d a n h j l =
     let all : before_of rs Mapped a n ≡ n = eqb-true _ _ h in
     let spot = mapped_spot rs 0 a (all_before rs Mapped a n all a (le_refl a) (omega arith)) in
     let t = span_places 0 rs d 0 a spot.0 n spot.1 all j l in
-    let e : spot.0 ≡ span_place rs a n = sym (pick_ne _ _ (λ (z : n ≡ 0). let w : ⊥ = omega arith in w) ∙ ap place_in spot.1.1) in
+    let e : spot.0 ≡ span_place rs a n = sym (pick_ne _ _ (λ (z : n ≡ 0). omega arith) ∙ ap place_in spot.1.1) in
     subst (λ (p : ℕ). Stands rs 0 (a + j) (p + j)) e t
 
 held_at_is : (cs : List Cell) (m : List ℕ) (a i : ℕ) → i < length cs → address_of cs i ≡ a → ((j : ℕ) → j < i → address_of cs j ≡ a → ⊥) → held_at cs m a ≡ get_or m i 0
 unfolding held_at
-held_at_is [] m a i l e none = absurd (let w : ⊥ = omega arith in w)
+held_at_is [] m a i l e none = absurd (omega arith)
 held_at_is (x ∷ xs) m a zero l e none = when_yes _ _ (eq-eqb x.address a e)
 held_at_is (x ∷ xs) m a (suc i) l e none =
     when_no _ _ (ne_eqb x.address a (none 0 (omega arith)))
@@ -159,22 +155,22 @@ held_length cs m a (suc n) = ap suc (held_length cs m (suc a) n)
 
 held_at_lem : (cs : List Cell) (m : List ℕ) (a n j : ℕ) → j < n → get_or (held cs m a n) j 0 ≡ held_at cs m (a + j)
 unfolding held
-held_at_lem cs m a zero j l = absurd (let w : ⊥ = omega arith in w)
+held_at_lem cs m a zero j l = absurd (omega arith)
 held_at_lem cs m a (suc n) zero l = ap (held_at cs m) (let z : a ≡ a + 0 = omega arith in z)
 held_at_lem cs m a (suc n) (suc j) l = held_at_lem cs m (suc a) n j (omega arith) ∙ ap (held_at cs m) (let z : suc a + j ≡ a + suc j = omega arith in z)
 
 pub stored_length : (ps : List Piece) (cs : List Cell) (m : List ℕ) → length m ≡ length cs → length (stored ps cs m) ≡ length m
 unfolding stored
 stored_length ps [] [] e = refl
-stored_length ps [] (y ∷ ys) e = absurd (let w : ⊥ = omega arith in w)
+stored_length ps [] (y ∷ ys) e = absurd (omega arith)
 stored_length ps (x ∷ xs) [] e = refl
 stored_length ps (x ∷ xs) (y ∷ ys) e = ap suc (stored_length ps xs ys (omega arith))
 
 pub stored_at : (ps : List Piece) (cs : List Cell) (m : List ℕ) (i : ℕ) → length m ≡ length cs → i < length m → get_or (stored ps cs m) i 0 ≡ laid ps (address_of cs i) (get_or m i 0)
 unfolding stored
-stored_at ps [] [] i e l = absurd (let w : ⊥ = omega arith in w)
-stored_at ps [] (y ∷ ys) i e l = absurd (let w : ⊥ = omega arith in w)
-stored_at ps (x ∷ xs) [] i e l = absurd (let w : ⊥ = omega arith in w)
+stored_at ps [] [] i e l = absurd (omega arith)
+stored_at ps [] (y ∷ ys) i e l = absurd (omega arith)
+stored_at ps (x ∷ xs) [] i e l = absurd (omega arith)
 stored_at ps (x ∷ xs) (y ∷ ys) zero e l = refl
 stored_at ps (x ∷ xs) (y ∷ ys) (suc i) e l = stored_at ps xs ys i (omega arith) (omega arith)
 
@@ -185,13 +181,8 @@ room_total (r ∷ rs) = ap (λ (n : ℕ). r.length + n) (room_total rs)
 
 put_none : (m : List ℕ) (at : ℕ) (o : List ℕ) → length o ≡ 0 → put_at m at o ≡ m
 unfolding put_at
-put_none m at [] e = ap (λ (k : ℕ). take at m ++ drop k m) (let z : at + 0 ≡ at = omega arith in z) ∙ take_drop m at
-  where
-    take_drop : (m : List ℕ) (at : ℕ) → take at m ++ drop at m ≡ m
-    take_drop m zero = refl
-    take_drop [] (suc at) = refl
-    take_drop (x ∷ xs) (suc at) = ap (λ (l : List ℕ). x ∷ l) (take_drop xs at)
-put_none m at (x ∷ xs) e = absurd (let w : ⊥ = omega arith in w)
+put_none m at [] e = ap (λ (k : ℕ). take at m ++ drop k m) (let z : at + 0 ≡ at = omega arith in z) ∙ take-append-drop at m
+put_none m at (x ∷ xs) e = absurd (omega arith)
 
 module _ (rs : List Area) (apart : Apart' 0 rs) (m : List ℕ) (whole : length m ≡ length (cells rs)) (a n : ℕ)
     (mapped : span_has (map as_region rs) Mapped a n ≡ true) where
@@ -228,7 +219,7 @@ module _ (rs : List Area) (apart : Apart' 0 rs) (m : List ℕ) (whole : length m
           let t = stands j k' in
           part_at m place n j k'
           ∙ sym (held_at_is (cells rs) m (a + j) (place + j) t.1 t.0
-          (λ i q e. let f = rises 0 rs apart i (place + j) q t.1 in let g = t.0 in let w : ⊥ = omega arith in w))
+          (λ i q e. let f = rises 0 rs apart i (place + j) q t.1 in let g = t.0 in omega arith))
           ∙ sym (held_at_lem (cells rs) m a n j k'))
 
   lies_out : (o : List ℕ) (k old : ℕ) → length o ≡ n → n < 1 → lies (piece a o) k old ≡ old

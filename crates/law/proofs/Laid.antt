@@ -50,7 +50,7 @@ lay_length k p (x ∷ xs) = ap suc (lay_length (suc k) p xs)
 
 lay_at : (k : ℕ) (p : Piece) (d : List ℕ) (i : ℕ) → i < length d → get_or (lay k p d) i 0 ≡ lies p (k + i) (get_or d i 0)
 unfolding lay
-lay_at k p [] i h = absurd (let w : ⊥ = omega arith in w)
+lay_at k p [] i h = absurd (omega arith)
 lay_at k p (x ∷ xs) zero h = ap (λ (n : ℕ). lies p n x) (let e : k ≡ k + 0 = omega arith in e)
 lay_at k p (x ∷ xs) (suc i) h =
     lay_at (suc k) p xs i (omega arith) ∙ ap (λ (n : ℕ). lies p n (get_or xs i 0)) (let e : suc k + i ≡ k + suc i = omega arith in e)
@@ -88,7 +88,7 @@ over_put p ps d fits = over_lay 0 p ps d ∙ ap (over ps) (lay_put p d fits)
 pub stored_none : (cs : List Cell) (m : List ℕ) → length m ≡ length cs → stored [] cs m ≡ m
 unfolding stored laid
 stored_none [] [] e = refl
-stored_none [] (x ∷ xs) e = absurd (let w : ⊥ = omega arith in w)
+stored_none [] (x ∷ xs) e = absurd (omega arith)
 stored_none (c ∷ cs) [] e = refl
 stored_none (c ∷ cs) (x ∷ xs) e = ap (λ (l : List ℕ). x ∷ l) (stored_none cs xs (omega arith))
 
@@ -100,7 +100,7 @@ over_length k ps (x ∷ xs) = ap suc (over_length (suc k) ps xs)
 
 pub over_at : (k : ℕ) (ps : List Piece) (d : List ℕ) (i : ℕ) → i < length d → get_or (over_from k ps d) i 0 ≡ laid ps (k + i) (get_or d i 0)
 unfolding over_from
-over_at k ps [] i h = absurd (let w : ⊥ = omega arith in w)
+over_at k ps [] i h = absurd (omega arith)
 over_at k ps (x ∷ xs) zero h = ap (λ (n : ℕ). laid ps n x) (let e : k ≡ k + 0 = omega arith in e)
 over_at k ps (x ∷ xs) (suc i) h =
     over_at (suc k) ps xs i (omega arith) ∙ ap (λ (n : ℕ). laid ps n (get_or xs i 0)) (let e : suc k + i ≡ k + suc i = omega arith in e)

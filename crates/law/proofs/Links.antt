@@ -1,11 +1,12 @@
 -- The kinds of a link record are the paper's types of PDU.
-use mathlib.Core.Bool.{Bool, true, false, not, ◌&&◌, ◌||◌, true≢false, and-eq-true_iff}
+use mathlib.Core.Bool.{Bool, true, false, not, ◌&&◌, ◌||◌, true≢false, and-eq-true_iff, or-false}
 use mathlib.Core.Logic.{◌⊎◌, inl, inr, ⊎_elim}
 use mathlib.Core.Path.{◌≡◌, refl, sym, ap, ap₂, subst, ◌∙◌}
 use Prim.Native.Nat.{ℕ}
 use native.Mathlib.Omega.{arith}
 use borrow.Author.Tests.{eqb-true, eq-eqb, ne_eqb}
 use lib.Dec.{eqb}
+use Rattle.std.proofs.lemmas.Bool.{or_cases, and_from}
 use Rattle.octets.specs.Pick.{pick}
 use Rattle.octets.proofs.Cases.{eq_or_ne}
 use Rattle.octets.proofs.Pick.{pick_yes, pick_no, pick_eq, pick_ne}
@@ -44,12 +45,8 @@ link_there kind e =
     (λ (k : kind ≡ 5). k ∙ ap link_kind (sym (pick_eq _ _ k)))
     (λ (k : kind ≡ 5 → ⊥).
     let one : eqb kind 1 || false ≡ true = ap (λ (b : Bool). eqb kind 1 || b) (sym (ne_eqb kind 5 k)) ∙ e in
-    eqb-true kind 1 (sym (or_no (eqb kind 1)) ∙ one) ∙ ap link_kind (sym (pick_ne _ _ k)))
+    eqb-true kind 1 (sym (or-false (eqb kind 1)) ∙ one) ∙ ap link_kind (sym (pick_ne _ _ k)))
     (eq_or_ne kind 5)
-  where
-    or_no : (b : Bool) → b || false ≡ b
-    or_no true = refl
-    or_no false = refl
 
 pub no_link : (kind : ℕ) → is_link kind ≡ false → (t : PduType) → kind ≡ link_kind t → ⊥
 no_link kind e t k = true≢false (sym (ap is_link k ∙ link_back t) ∙ e)
@@ -76,29 +73,21 @@ unfolding is_length
 five l h =
     ⊎_elim (λ (e : l ≡ 8). rw e) (⊎_elim (λ (e : l ≡ 16). rw e) (⊎_elim (λ (e : l ≡ 32). rw e) (⊎_elim (λ (e : l ≡ 48). rw e) (λ (e : l ≡ 64). rw e)))) h
 
-or_true : (a b : Bool) → a || b ≡ true → (a ≡ true) ⊎ (b ≡ true)
-or_true true b e = inl refl
-or_true false b e = inr e
-
 five_back : (l : ℕ) → is_length l ≡ true → FiveLengths l
 unfolding is_length
 five_back l e =
     ⊎_elim
     (λ e₄. ⊎_elim
     (λ e₃. ⊎_elim
-    (λ e₂. ⊎_elim (λ e₁. inl (eqb-true l 8 e₁)) (λ d. inr (inl (eqb-true l 16 d))) (or_true (eqb l 8) (eqb l 16) e₂))
-    (λ d. inr (inr (inl (eqb-true l 32 d)))) (or_true (eqb l 8 || eqb l 16) (eqb l 32) e₃))
-    (λ d. inr (inr (inr (inl (eqb-true l 48 d))))) (or_true (eqb l 8 || eqb l 16 || eqb l 32) (eqb l 48) e₄))
-    (λ d. inr (inr (inr (inr (eqb-true l 64 d))))) (or_true (eqb l 8 || eqb l 16 || eqb l 32 || eqb l 48) (eqb l 64) e)
+    (λ e₂. ⊎_elim (λ e₁. inl (eqb-true l 8 e₁)) (λ d. inr (inl (eqb-true l 16 d))) (or_cases (eqb l 8) (eqb l 16) e₂))
+    (λ d. inr (inr (inl (eqb-true l 32 d)))) (or_cases (eqb l 8 || eqb l 16) (eqb l 32) e₃))
+    (λ d. inr (inr (inr (inl (eqb-true l 48 d))))) (or_cases (eqb l 8 || eqb l 16 || eqb l 32) (eqb l 48) e₄))
+    (λ d. inr (inr (inr (inr (eqb-true l 64 d))))) (or_cases (eqb l 8 || eqb l 16 || eqb l 32 || eqb l 48) (eqb l 64) e)
 
 -- the lengths that a type has
 pub length_back : (t : PduType) (l : ℕ) → GoodLength t l → length_fits (link_kind t) l ≡ true
 unfolding length_fits
-length_back enhanced l h = and_true (is_length l) (five l h)
-  where
-    and_true : (b : Bool) → b ≡ true → b && true ≡ true
-    and_true true e = refl
-    and_true false e = e
+length_back enhanced l h = and_from _ true (five l h) refl
 length_back short l h = rw h (five_sixteen)
   where
     five_sixteen : is_length 16 && true ≡ true

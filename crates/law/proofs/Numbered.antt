@@ -5,10 +5,10 @@ use mathlib.Core.List.{List, ◌++◌}
 use Prim.Native.Nat.{ℕ, ◌+◌, ◌≤◌, ◌<◌}
 use lib.ListN.{length}
 use Rattle.sheet.specs.Faults.{number_of}
+use Rattle.sheet.specs.Told.{faulty}
 use Rattle.sheet.specs.Walk.{verdict_of}
 use Rattle.sheet.specs.declared.records.Fault.{Fault}
 use Rattle.sheet.specs.declared.records.Fault.TheVariants.{Ended, Unknown, Misplaced, Range, Disorder, Excess, Unmapped}
-use Rattle.sheet.specs.declared.walk.Verdict.TheVariants.{Faulty}
 use Rattle.law.specs.Words.{Every}
 use Rattle.law.specs.Sheet.{Region as Area, Parameter as Param, Item as Ident, IsOctet, region_octets, parameter_octets, item_octets, tolerance_octets, release_octets}
 use Rattle.law.specs.Faults.{Sofar, nothing, records, RegionFault, ParameterFault, ItemFault, BodyFault, RecordFault, AfterEnd, FaultAt, FirstFault, ToleranceFault, ReleaseFault}
@@ -84,7 +84,7 @@ first_known s n place c =
     q.which)
     c
 
-pub fault_is : (s : List ℕ) (n place : ℕ) → Every IsOctet s → FirstFault s n place → (f : Fault) × (number_of f ≡ n) × (verdict_of s ≡ Faulty f place)
+pub fault_is : (s : List ℕ) (n place : ℕ) → Every IsOctet s → FirstFault s n place → (f : Fault) × (number_of f ≡ n) × (verdict_of s ≡ faulty f place)
 fault_is s n place o c =
     let k = first_known s n place c in
     (k.0, k.1, told_fault s k.0 place o (subst (λ (i : ℕ). FirstFault s i place) (sym k.1) c))

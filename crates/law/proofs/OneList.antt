@@ -33,20 +33,20 @@ module _ {A : Type 0} (f : A → ℕ) where
   pub one_at : (c d : A) (l : List A) → InARow Up l → In c l → In d l → f c ≡ f d → c ≡ d
   one_at c d [] p i j e = absurd i
   one_at c d (x ∷ l) p (inl a) (inl b) e = a ∙ sym b
-  one_at c d (x ∷ l) p (inl a) (inr j) e = let q = behind d x l p j in let r = ap f a in absurd (let w : ⊥ = omega arith in w)
-  one_at c d (x ∷ l) p (inr i) (inl b) e = let q = behind c x l p i in let r = ap f b in absurd (let w : ⊥ = omega arith in w)
+  one_at c d (x ∷ l) p (inl a) (inr j) e = let q = behind d x l p j in let r = ap f a in absurd (omega arith)
+  one_at c d (x ∷ l) p (inr i) (inl b) e = let q = behind c x l p i in let r = ap f b in absurd (omega arith)
   one_at c d (x ∷ l) p (inr i) (inr j) e = one_at c d l (from_row x l p) i j e
 
   heads : (c d : A) (l m : List A) → From Up c l → From Up d m → In c (d ∷ m) → In d (c ∷ l) → c ≡ d
   heads c d l m p q i j =
       ⊎_elim (λ e. e)
-      (λ i. ⊎_elim (λ e. sym e) (λ j. let a = behind c d m q i in let b = behind d c l p j in absurd (let w : ⊥ = omega arith in w)) j)
+      (λ i. ⊎_elim (λ e. sym e) (λ j. let a = behind c d m q i in let b = behind d c l p j in absurd (omega arith)) j)
       i
 
   -- what is in the one list is in the other, and so without the heads
   tails : (c d : A) (l m : List A) → c ≡ d → From Up c l → ((x : A) → In x (c ∷ l) → In x (d ∷ m)) → (x : A) → In x l → In x m
   tails c d l m e p all x i =
-      ⊎_elim (λ k. let a = behind x c l p i in let b = ap f (k ∙ sym e) in absurd (let w : ⊥ = omega arith in w)) (λ j. j) (all x (inr i))
+      ⊎_elim (λ k. let a = behind x c l p i in let b = ap f (k ∙ sym e) in absurd (omega arith)) (λ j. j) (all x (inr i))
 
   pub same_rising : (l m : List A) → InARow Up l → InARow Up m → ((x : A) → In x l → In x m) → ((x : A) → In x m → In x l) → l ≡ m
   same_rising [] [] p q there back = refl

@@ -22,16 +22,16 @@ use Rattle.law.proofs.Fronts.{Good, widths, first_at, next_at, behind_at, kind_i
 -- a kind above 5 has one field of one octet
 one_first : (kind : ℕ) → 5 < kind → first_width kind ≡ 1
 unfolding first_width
-one_first kind h = pick_ne _ _ (λ (z : kind ≡ 2). let w : ⊥ = omega arith in w) ∙ pick_ne _ _ (λ (z : kind ≡ 3). let w : ⊥ = omega arith in w)
+one_first kind h = pick_ne _ _ (λ (z : kind ≡ 2). omega arith) ∙ pick_ne _ _ (λ (z : kind ≡ 3). omega arith)
 
 none_second : (kind : ℕ) → 5 < kind → second_width kind ≡ 0
 unfolding second_width
 none_second kind h =
-    pick_ne _ _ (λ (z : kind ≡ 2). let w : ⊥ = omega arith in w) ∙ pick_ne _ _ (λ (z : kind ≡ 3). let w : ⊥ = omega arith in w) ∙ pick_lt _ _ h
+    pick_ne _ _ (λ (z : kind ≡ 2). omega arith) ∙ pick_ne _ _ (λ (z : kind ≡ 3). omega arith) ∙ pick_lt _ _ h
 
 none_third : (kind : ℕ) → 5 < kind → third_width kind ≡ 0
 unfolding third_width
-none_third kind h = pick_ne _ _ (λ (z : kind ≡ 4). let w : ⊥ = omega arith in w) ∙ pick_lt _ _ h
+none_third kind h = pick_ne _ _ (λ (z : kind ≡ 4). omega arith) ∙ pick_lt _ _ h
 
 -- the bits of fields of these widths, one behind another
 unfoldable bits_walk : ℕ → List ℕ → List ℕ → ℕ → List ℕ → ℕ → ℕ
@@ -42,8 +42,8 @@ module _ (a b : List ℕ) where
   same_at : (i j : ℕ) (p q t u : List ℕ) → length p ≡ length q → drop i a ≡ p ++ t → drop j b ≡ q ++ u → same_of a i b j (length p) ≡ same p q
   unfolding same_of same
   same_at i j [] [] t u l d e = refl
-  same_at i j [] (y ∷ q) t u l d e = absurd (let w : ⊥ = omega arith in w)
-  same_at i j (x ∷ p) [] t u l d e = absurd (let w : ⊥ = omega arith in w)
+  same_at i j [] (y ∷ q) t u l d e = absurd (omega arith)
+  same_at i j (x ∷ p) [] t u l d e = absurd (omega arith)
   same_at i j (x ∷ p) (y ∷ q) t u l d e =
       ap₂ ◌&&◌ (ap₂ eqb (first_at a i x (p ++ t) d) (first_at b j y (q ++ u) e))
       (same_at (suc i) (suc j) p q t u (omega arith) (next_at a i x (p ++ t) d) (next_at b j y (q ++ u) e))
@@ -53,7 +53,7 @@ module _ (a b : List ℕ) where
       → bits_walk bit (map length xs) a i b j ≡ bits_from bit xs ys
   unfolding bits_walk bits_from bit_of
   bits_walk_lem bit i j [] ys t u l d e = refl
-  bits_walk_lem bit i j (x ∷ xs) [] t u l d e = absurd (let z = ap length l in let w : ⊥ = omega arith in w)
+  bits_walk_lem bit i j (x ∷ xs) [] t u l d e = absurd (let z = ap length l in omega arith)
   bits_walk_lem bit i j (x ∷ xs) (y ∷ ys) t u l d e =
       let n : length x ≡ length y = ap (λ (k : List ℕ). get_or k 0 0) l in
       let d₁ : drop i a ≡ x ++ (joined (λ f. f) xs ++ t) = d ∙ append_assoc x (joined (λ f. f) xs) t in

@@ -1,5 +1,5 @@
 -- The code's kinds, places and records are the paper's.
-use mathlib.Core.Bool.{Bool, true, false, ◌&&◌, ◌||◌}
+use mathlib.Core.Bool.{Bool, true, false, ◌&&◌}
 use mathlib.Core.Logic.{⊎_elim}
 use mathlib.Core.Path.{◌≡◌, refl, ap, ◌∙◌}
 use mathlib.Core.List.{List, ◌++◌}
@@ -9,6 +9,7 @@ use borrow.Author.Tests.{eq-eqb, ne_eqb, le-ltb, le-leb, leb-true}
 use lib.Dec.{eqb, ltb}
 use lib.ListN.{length, get_or}
 use lib.Seq.{take_at}
+use Rattle.std.proofs.lemmas.Bool.{or_from}
 use Rattle.octets.proofs.Cases.{eq_or_ne}
 use Rattle.octets.proofs.Pick.{pick_yes, pick_no}
 use Rattle.regions.specs.Region.{region_from}
@@ -30,7 +31,7 @@ size_same (suc (suc (suc (suc zero)))) h = pick_no _ _ refl ∙ pick_no _ _ refl
 size_same (suc (suc (suc (suc (suc zero))))) h = pick_no _ _ refl ∙ pick_yes _ _ refl
 size_same (suc (suc (suc (suc (suc (suc zero)))))) h = pick_no _ _ refl ∙ pick_no _ _ refl ∙ pick_no _ _ refl ∙ pick_no _ _ refl ∙ pick_no _ _ refl
 size_same (suc (suc (suc (suc (suc (suc (suc zero))))))) h = pick_no _ _ refl ∙ pick_no _ _ refl ∙ pick_no _ _ refl ∙ pick_no _ _ refl ∙ pick_no _ _ refl
-size_same (suc (suc (suc (suc (suc (suc (suc (suc n)))))))) h = absurd (let w : ⊥ = omega arith in w)
+size_same (suc (suc (suc (suc (suc (suc (suc (suc n)))))))) h = absurd (omega arith)
 
 -- the code's kinds are the paper's
 pub kind_there : (k : ℕ) → is_kind k ≡ true → Kind k
@@ -40,10 +41,6 @@ kind_there k e = leb-true k 7 e
 pub kind_back : (k : ℕ) → Kind k → is_kind k ≡ true
 unfolding is_kind
 kind_back k h = le-leb k 7 h
-
-or_both : (a b : Bool) → a ≡ false → b ≡ false → a || b ≡ false
-or_both true b e f = e
-or_both false b e f = f
 
 kind_free : (kind k n : ℕ) → (kind ≡ k → n ≡ 0) → eqb kind k && ltb 0 n ≡ false
 kind_free kind k n h =
@@ -57,11 +54,11 @@ pub place_in : (kind : ℕ) (so : Counts) → is_link kind ≡ false → (kind �
     → (kind ≡ 6 → so.tolerances + so.releases ≡ 0) → (kind ≡ 7 → so.releases ≡ 0) → misplaced_of false kind so ≡ false
 unfolding misplaced_of
 place_in kind so a b c d e f =
-    or_both _ _
-    (or_both _ _
-    (or_both _ _
-    (or_both _ _
-    (or_both _ _ a (kind_free kind 2 (so.parameters + so.items + so.tolerances + so.releases) b))
+    or_from _ _
+    (or_from _ _
+    (or_from _ _
+    (or_from _ _
+    (or_from _ _ a (kind_free kind 2 (so.parameters + so.items + so.tolerances + so.releases) b))
     (kind_free kind 3 (so.items + so.tolerances + so.releases) c))
     (kind_free kind 4 (so.tolerances + so.releases) d))
     (kind_free kind 6 (so.tolerances + so.releases) e))

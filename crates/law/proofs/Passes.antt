@@ -1,5 +1,5 @@
 -- The machine's pass over the octets of two sheets lists what the pass over their records does.
-use mathlib.Core.Bool.{Bool, true, false, ◌&&◌}
+use mathlib.Core.Bool.{false, ◌&&◌}
 use mathlib.Core.Logic.{⊎_elim}
 use mathlib.Core.Path.{◌≡◌, refl, sym, ap, ap₂, ◌∙◌}
 use mathlib.Core.List.{List, [], ◌∷◌, ◌++◌, append_assoc}
@@ -8,6 +8,7 @@ use native.Mathlib.Omega.{arith}
 use borrow.Author.Tests.{eq-eqb, ne_eqb, lt-ltb, le-ltb}
 use lib.Dec.{eqb}
 use lib.ListN.{length, drop, length-append}
+use Rattle.std.proofs.lemmas.Bool.{and_left, and_right}
 use Rattle.octets.specs.Pick.{pick}
 use Rattle.octets.proofs.Cases.{lt_or_le}
 use Rattle.octets.proofs.Pick.{pick_yes, pick_no, pick_lt, pick_ge}
@@ -47,19 +48,15 @@ unfolding written_of
 records_few [] = omega arith
 records_few (e ∷ es) = let l = length-append (body_of e) (written_of es) in let r = records_few es in omega arith
 
-and_no : (t : Bool) → t && false ≡ false
-and_no true = refl
-and_no false = refl
-
 -- one turn, and what the turns behind it come to
 module _ (a b : List ℕ) (f i j : ℕ) where
   going_first : (kind_at a i ≡ 0 → ⊥) → at_end a i b j ≡ false
   unfolding at_end
-  going_first n = ap (λ (t : Bool). t && eqb (kind_at b j) 0) (ne_eqb _ _ n)
+  going_first n = and_left _ (eqb (kind_at b j) 0) (ne_eqb _ _ n)
 
   going_second : (kind_at b j ≡ 0 → ⊥) → at_end a i b j ≡ false
   unfolding at_end
-  going_second n = ap (λ (t : Bool). eqb (kind_at a i) 0 && t) (ne_eqb _ _ n) ∙ and_no (eqb (kind_at a i) 0)
+  going_second n = and_right (eqb (kind_at a i) 0) _ (ne_eqb _ _ n)
 
   turn : (o : List ℕ) (k m : ℕ) → at_end a i b j ≡ false → step_of a i b j ≡ step o k m → turns (suc f) a i b j ≡ o ++ turns f a k b m
   unfolding turns
@@ -130,7 +127,7 @@ merge_left x xs = refl
 pass : (a b : List ℕ) (f i j : ℕ) (xs ys : List Entry) → drop i a ≡ written_of xs → drop j b ≡ written_of ys → Every Good xs → Every Good ys
     → length xs + length ys < f → turns f a i b j ≡ list_octets (merge xs ys)
 unfolding written_of
-pass a b zero i j xs ys d e g h l = absurd (let w : ⊥ = omega arith in w)
+pass a b zero i j xs ys d e g h l = absurd (omega arith)
 pass a b (suc f) i j [] [] d e g h l = turn_end a b f i j (end_kind a i d) (end_kind b j e) ∙ sym (ap list_octets merge_end)
 pass a b (suc f) i j [] (y ∷ ys) d e g h l =
     let t = written_of ys in

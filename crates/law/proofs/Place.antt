@@ -9,6 +9,7 @@ use borrow.Author.Tests.{eqb-true, eqb-false, ltb-true, ltb-false, eq-eqb, ne_eq
 use lib.Dec.{eqb, ltb}
 use lib.ListN.{length, get_or, drop, length-drop}
 use lib.Seq.{length-take-le}
+use Rattle.std.specs.Prelude.{Err}
 use Rattle.octets.proofs.Cases.{decided, eq_or_ne}
 use Rattle.octets.proofs.Pick.{pick_yes, pick_no, pick_eq, pick_ne, pick_key}
 use Rattle.regions.specs.Region.{region_from, region_at}
@@ -17,18 +18,17 @@ use Rattle.sheet.specs.Faults.{number_of}
 use Rattle.sheet.specs.Kinds.{is_kind, is_link, length_fits, size_of, misplaced_of}
 use Rattle.sheet.specs.Reading.{link_of, region_of, parameter_of, item_of, tolerance_of, release_of, body_of, record_of}
 use Rattle.sheet.specs.Sound.{Sound}
+use Rattle.sheet.specs.Told.{faulty}
 use Rattle.sheet.specs.Walk.{none, place_of, ended_of, verdict_of}
 use Rattle.sheet.specs.declared.records.Counts.{Counts}
 use Rattle.sheet.specs.declared.records.Fault.{Fault}
 use Rattle.sheet.specs.declared.records.Fault.TheVariants.{Ended, Unknown, Misplaced, Range}
-use Rattle.sheet.specs.declared.records.Reading.TheVariants.{Bad}
-use Rattle.sheet.specs.declared.walk.Layout.{Layout}
-use Rattle.sheet.specs.declared.walk.Verdict.TheVariants.{Valid, Faulty}
+use Rattle.sheet.specs.declared.records.Flaw.{Flaw}
 use Rattle.sheet.proofs.Onward.{in_place, last_kind, link_begins}
 use Rattle.law.specs.Words.{Every}
 use Rattle.law.specs.Sheet.{PduType, Region as Area, Parameter as Param, Item as Ident, WellFormed, GoodLength, link_kind, IsOctet, region_octets, parameter_octets, item_octets, tolerance_octets, release_octets, written, room}
 use Rattle.law.specs.Faults.{RegionFault, ParameterFault, ItemFault, ToleranceFault, ReleaseFault, nothing, records, InPlace, record_length, BodyFault, RecordFault, FirstFault}
-use Rattle.law.proofs.Checks.{decides, passes, no_more, read_no_fault}
+use Rattle.law.proofs.Checks.{decides, passes, no_more}
 use Rattle.law.proofs.Links.{pdu_of, link_back, link_there, no_link, not_link, length_back, length_there}
 use Rattle.law.proofs.RecordFaults.{area_fault, param_fault, ident_fault, tolerance_fault, release_fault}
 use Rattle.law.proofs.Front.{read_sheet, front_good, front_written}
@@ -39,7 +39,7 @@ use Rattle.law.proofs.Listed.{length_listed}
 use Rattle.law.proofs.PaperKinds.{size_same, kind_there, kind_back, place_in, area_same, param_same, ident_same, region_fits, parameter_fits}
 
 module _ (s rest : List ℕ) (octs : Every IsOctet rest) (fault : Fault) where
-  pub first_fault : length rest ≡ length s → (record_of s rest none ≡ Bad fault) ↔ RecordFault nothing rest (number_of fault)
+  pub first_fault : length rest ≡ length s → (record_of s rest none ≡ Err fault) ↔ RecordFault nothing rest (number_of fault)
   unfolding record_of misplaced_of body_of link_of number_of
   first_fault z =
       let kind = get_or rest 0 0 in
@@ -58,12 +58,12 @@ module _ (s rest : List ℕ) (octs : Every IsOctet rest) (fault : Fault) where
       (decides _ Ended _ refl (λ b q. let k = ltb-true (length rest) (size_of kind) b in omega (arith, size, q, k)) (λ b₄.
       passes (let k = ltb-false (length rest) (size_of kind) b₄ in omega (arith, size, k)) (link_fault link))))))))
     where
-      link_fault : is_link (get_or rest 0 0) ≡ true → (body_of (get_or rest 0 0) s rest none ≡ Bad fault) ↔ BodyFault nothing rest (number_of fault)
+      link_fault : is_link (get_or rest 0 0) ≡ true → (body_of (get_or rest 0 0) s rest none ≡ Err fault) ↔ BodyFault nothing rest (number_of fault)
       link_fault link =
           let kind = get_or rest 0 0 in
           let l = get_or rest 1 0 in
           let e : body_of kind s rest none ≡ link_of rest none = pick_ne _ _ (link_begins kind link) ∙ pick_yes _ _ link in
-          let d : (link_of rest none ≡ Bad fault) ↔ BodyFault nothing rest (number_of fault) =
+          let d : (link_of rest none ≡ Err fault) ↔ BodyFault nothing rest (number_of fault) =
           decides _ Range _ refl
           (λ b (q : (t : PduType) × (kind ≡ link_kind t) × GoodLength t l). true≢false (sym b ∙ ap not (ap (λ (k : ℕ). length_fits k l) q.1 ∙ length_back q.0 l q.2)))
           (λ b. passes (pdu_of kind, link_there kind link, length_there kind l (not-false _ b)) no_more) in
@@ -74,11 +74,11 @@ module _ (s rest : List ℕ) (octs : Every IsOctet rest) (fault : Fault) where
     o = octet_at rest octs
 
     body_there : is_kind (get_or rest 0 0) ≡ true → is_link (get_or rest 0 0) ≡ false → record_length (get_or rest 0 0) ≤ length rest
-        → body_of (get_or rest 0 0) s rest so ≡ Bad fault → BodyFault (records (read_sheet s so)) rest (number_of fault)
+        → body_of (get_or rest 0 0) s rest so ≡ Err fault → BodyFault (records (read_sheet s so)) rest (number_of fault)
     unfolding body_of region_of parameter_of item_of tolerance_of release_of
     body_there known n₁ fits w =
         ⊎_elim
-        (λ (k : get_or rest 0 0 ≡ 0). absurd (read_no_fault (sym (pick_eq _ _ k) ∙ w)))
+        (λ (k : get_or rest 0 0 ≡ 0). let e = sym (pick_eq _ _ k) ∙ w in cc)
         (λ (n₀ : get_or rest 0 0 ≡ 0 → ⊥).
         ⊎_elim
         (λ (k : get_or rest 0 0 ≡ 2).
@@ -144,7 +144,7 @@ module _ (s rest : List ℕ) (octs : Every IsOctet rest) (fault : Fault) where
         (eq_or_ne (get_or rest 0 0) 2))
         (eq_or_ne (get_or rest 0 0) 0)
 
-    body_back : record_length (get_or rest 0 0) ≤ length rest → BodyFault (records (read_sheet s so)) rest (number_of fault) → body_of (get_or rest 0 0) s rest so ≡ Bad fault
+    body_back : record_length (get_or rest 0 0) ≤ length rest → BodyFault (records (read_sheet s so)) rest (number_of fault) → body_of (get_or rest 0 0) s rest so ≡ Err fault
     unfolding body_of region_of parameter_of item_of tolerance_of release_of
     body_back fits c =
         let h = read_sheet s so in
@@ -185,7 +185,7 @@ module _ (s rest : List ℕ) (octs : Every IsOctet rest) (fault : Fault) where
         ∙ (release_fault so fault (get_or rest 1 0)).1 (subst (λ (n : ℕ). ReleaseFault n (number_of fault)) (sym e) x.3)))))
         c
 
-    pub later_fault : (length rest ≡ length s → ⊥) → (record_of s rest so ≡ Bad fault) ↔ RecordFault (records (read_sheet s so)) rest (number_of fault)
+    pub later_fault : (length rest ≡ length s → ⊥) → (record_of s rest so ≡ Err fault) ↔ RecordFault (records (read_sheet s so)) rest (number_of fault)
     unfolding record_of number_of
     later_fault away =
         let kind = get_or rest 0 0 in
@@ -215,16 +215,16 @@ module _ (s rest : List ℕ) (octs : Every IsOctet rest) (fault : Fault) where
         let fits : record_length kind ≤ length rest = let k = ltb-false (length rest) (size_of kind) b₄ in omega (arith, size, k) in
         passes fits (body_there (not-false _ b₂) i.0 fits, body_back fits))))))))
 
-no_valid : {f : Fault} {p : ℕ} {lay : Layout} → Valid lay ≡ Faulty f p → ⊥
-no_valid e = let z : ◌≡◌ {A = ℕ} 0 1 = cc in omega arith
-
-same_told : {f g : Fault} {p q : ℕ} → Faulty f p ≡ Faulty g q → (f ≡ g) × (p ≡ q)
-same_told {f} {g} {p} {q} e = (let a : f ≡ g = cc in a, let b : p ≡ q = cc in b)
+-- two faults that are told alike are one, at one place
+pub same_told : {f g : Fault} {p q : ℕ} → faulty f p ≡ faulty g q → (f ≡ g) × (p ≡ q)
+same_told {f} {g} {p} {q} e =
+    let same : ◌≡◌ {A = Flaw} (record { fault = f; place = p }) (record { fault = g; place = q }) = cc in
+    (ap (λ (x : Flaw). x.fault) same, ap (λ (x : Flaw). x.place) same)
 
 memory_read : (s : List ℕ) (at : ℕ) (so : Counts) → Sound s at so → room (read_sheet s so).regions ≡ so.memory
 memory_read s at so ok = sum_listed (region_at s) 0 so.regions ∙ sym ok.memory_sum
 
-pub fault_told : (s : List ℕ) (f : Fault) (place : ℕ) → Every IsOctet s → verdict_of s ≡ Faulty f place → FirstFault s (number_of f) place
+pub fault_told : (s : List ℕ) (f : Fault) (place : ℕ) → Every IsOctet s → verdict_of s ≡ faulty f place → FirstFault s (number_of f) place
 unfolding verdict_of ended_of number_of
 fault_told s f place octs v =
     ⊎_elim
@@ -233,7 +233,7 @@ fault_told s f place octs v =
     inl (ltb-true 2048 (length s) b, ap number_of (sym e.0), sym e.1))
     (λ (b : ltb 2048 (length s) ≡ false).
     let short = ltb-false 2048 (length s) b in
-    let q = reached s (Faulty f place) short (sym (pick_no _ _ b) ∙ v) in
+    let q = reached s (faulty f place) short (sym (pick_no _ _ b) ∙ v) in
     let rest = q.rest in
     let so = q.so in
     let st = q.standing in
@@ -269,7 +269,7 @@ fault_told s f place octs v =
             which = inl (
               omega (arith, e.1, fits),
               subst (λ (g : Fault). RecordFault (records (read_sheet s so)) rest (number_of g)) e.0
-                  ((later_fault s rest ro c.0 so good (memory_read s (place_of s rest) so st.sound) (λ (x : length rest ≡ length s). let k : ⊥ = omega arith in k)).0 c.1),
+                  ((later_fault s rest ro c.0 so good (memory_read s (place_of s rest) so st.sound) (λ (x : length rest ≡ length s). omega arith)).0 c.1),
             );
           })
           st.sound.begun)
@@ -285,7 +285,7 @@ fault_told s f place octs v =
             split = front_written s octs so (place_of s rest) st.sound q.marked h.1 (omega arith) h.2 ∙ ap (written (read_sheet s so)) (sym st.part);
             which = inr ((c.3, ltb-true 1 (length rest) d), ap number_of (sym e.0), omega (arith, e.1, fits));
           })
-          (λ (d : ltb 1 (length rest) ≡ false). absurd (no_valid (sym (pick_no _ _ d) ∙ c.4)))
+          (λ (d : ltb 1 (length rest) ≡ false). let e = sym (pick_no _ _ d) ∙ c.4 in cc)
           (decided (ltb 1 (length rest))))
           q.last,
     ))

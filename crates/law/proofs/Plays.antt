@@ -3,7 +3,7 @@ use mathlib.Core.Bool.{true, false, not}
 use mathlib.Core.Logic.{⊎_elim}
 use mathlib.Core.Path.{◌≡◌, refl, sym, ap, ◌∙◌}
 use mathlib.Core.List.{List, [], ◌∷◌, map}
-use Prim.Native.Nat.{ℕ, zero, suc, ◌+◌, ◌*◌, ◌≤◌, ◌<◌}
+use Prim.Native.Nat.{ℕ, suc, ◌+◌, ◌*◌, ◌≤◌, ◌<◌}
 use native.Mathlib.Omega.{arith}
 use borrow.Author.Tests.{eq-eqb, ne_eqb, lt-ltb, le-ltb}
 use lib.Dec.{eqb, ltb}
@@ -69,10 +69,6 @@ module _ (h : Sheet) (w : WellFormed h) where
     abbrev after : Result
     after = done h s m c (fate_of h s m c)
 
-    some : (n : ℕ) → (n ≡ 0 → ⊥) → 1 ≤ n
-    some zero z = absurd (z refl)
-    some (suc n) z = omega arith
-
     is_done : leaves (exchanged (sheet_octets h) (layout_for h) ready.st m c) ≡ after
     is_done =
         done_same h w ready.st ready.facts m c ready.whole asked ready.on
@@ -83,14 +79,14 @@ module _ (h : Sheet) (w : WellFormed h) where
     next_ready =
         let o = outcome_for (sheet_octets h) (layout_for h) ready.st c in
         let u = stray_of (form_for h.pdu) (release_for h) c in
-        let one = some ready.st.link ready.on in
+        let one : 1 ≤ ready.st.link = omega (arith, ready.on) in
         let there = outcome_on (sheet_octets h) (layout_for h) ready.st (command_of (form_for h.pdu) c) u h.l ready.facts one in
         let fit = ready.whole ∙ sym (length_cells h.regions) in
         record {
           st = o.next;
           record_of = sym (ap (λ (x : Result). x.state) is_done);
           facts = outcome_valid (sheet_octets h) (layout_for h) ready.st (command_of (form_for h.pdu) c) u h.l ready.facts one (omega (arith, few_first h.tolerances w.tolerances));
-          on = λ z. let k : ⊥ = omega arith in k;
+          on = λ z. omega arith;
           whole = stored_length (fate_of h s m c).stores (cells h.regions) m fit ∙ ready.whole;
         }
 
@@ -161,7 +157,7 @@ module _ (h : Sheet) (w : WellFormed h) where
   unfolding checked_form
   long_same trace s m rest long =
       let e : checked_form h.l trace ≡ told 35 0 = pick_lt _ _ long in
-      ap leaves_replay (pick_differ _ _ (λ z. let k : 35 ≡ 0 = sym (ap (λ (x : Answer). x.number) e) ∙ z in let u : ⊥ = omega arith in u))
+      ap leaves_replay (pick_differ _ _ (λ z. let k : 35 ≡ 0 = sym (ap (λ (x : Answer). x.number) e) ∙ z in omega arith))
       ∙ ap (λ (x : Answer). leaves_replay (replayed x s m)) e
 
   -- what stands behind the state record

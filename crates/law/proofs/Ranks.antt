@@ -8,6 +8,7 @@ use native.Mathlib.Omega.{arith}
 use borrow.Author.Tests.{eqb-true, eq-eqb}
 use lib.Dec.{eqb}
 use lib.ListN.{length}
+use Rattle.std.proofs.lemmas.Bool.{and_parts}
 use Rattle.law.specs.Words.{when, Every}
 use Rattle.law.specs.Difference.{Entry, order_of_kind, rank, rank_of, same, bits_from, bits_of, In, Has}
 use Rattle.law.proofs.Merge.{Shaped}
@@ -43,18 +44,12 @@ has_in kind key x (y ∷ es) k e i =
     ⊎_elim (λ p. inl (k ∙ ap (λ (z : Entry). z.kind) p, e ∙ ap (λ (z : Entry). z.key) p)) (λ j. inr (has_in kind key x es k e j)) i
 
 -- fields that are the same
-pub and_true : (a b : Bool) → a && b ≡ true → (a ≡ true) × (b ≡ true)
-and_true true true e = (refl, refl)
-and_true true false e = (refl, e)
-and_true false true e = (e, refl)
-and_true false false e = (e, e)
-
 pub same_yes : (xs ys : List ℕ) → same xs ys ≡ true → xs ≡ ys
 unfolding same
 same_yes [] [] e = refl
-same_yes [] (y ∷ ys) e = let z : ◌≡◌ {A = ℕ} 0 1 = cc in absurd (let w : ⊥ = omega arith in w)
-same_yes (x ∷ xs) [] e = let z : ◌≡◌ {A = ℕ} 0 1 = cc in absurd (let w : ⊥ = omega arith in w)
-same_yes (x ∷ xs) (y ∷ ys) e = let p = and_true (eqb x y) (same xs ys) e in ap₂ ◌∷◌ (eqb-true x y p.0) (same_yes xs ys p.1)
+same_yes [] (y ∷ ys) e = cc
+same_yes (x ∷ xs) [] e = cc
+same_yes (x ∷ xs) (y ∷ ys) e = let p = and_parts (eqb x y) (same xs ys) e in ap₂ ◌∷◌ (eqb-true x y p.0) (same_yes xs ys p.1)
 
 pub same_self : (xs : List ℕ) → same xs xs ≡ true
 unfolding same
@@ -64,13 +59,13 @@ same_self (x ∷ xs) = ap₂ ◌&&◌ (eq-eqb x x refl) (same_self xs)
 bit_kept : (t : Bool) (b n : ℕ) → 0 < b → when t 0 b + n ≡ 0 → (t ≡ true) × (n ≡ 0)
 unfolding when
 bit_kept true b n h e = (refl, omega arith)
-bit_kept false b n h e = absurd (let w : ⊥ = omega arith in w)
+bit_kept false b n h e = absurd (omega arith)
 
 pub bits_none : (b : ℕ) (xs ys : List (List ℕ)) → 0 < b → length xs ≡ length ys → bits_from b xs ys ≡ 0 → xs ≡ ys
 unfolding bits_from
 bits_none b [] [] h l e = refl
-bits_none b [] (y ∷ ys) h l e = absurd (let w : ⊥ = omega arith in w)
-bits_none b (x ∷ xs) [] h l e = absurd (let w : ⊥ = omega arith in w)
+bits_none b [] (y ∷ ys) h l e = absurd (omega arith)
+bits_none b (x ∷ xs) [] h l e = absurd (omega arith)
 bits_none b (x ∷ xs) (y ∷ ys) h l e =
     let p = bit_kept (same x y) b (bits_from (b + b) xs ys) h e in
     ap₂ ◌∷◌ (same_yes x y p.0) (bits_none (b + b) xs ys (omega arith) (omega arith) p.1)

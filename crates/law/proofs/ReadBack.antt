@@ -33,8 +33,8 @@ cut_once a b s t l e =
 fields_once : (xs ys : List (List ℕ)) (s t : List ℕ) → map length xs ≡ map length ys → joined (λ f. f) xs ++ s ≡ joined (λ f. f) ys ++ t
     → (xs ≡ ys) × (s ≡ t)
 fields_once [] [] s t l e = (refl, e)
-fields_once [] (y ∷ ys) s t l e = let z : ◌≡◌ {A = ℕ} 0 1 = cc in absurd (let w : ⊥ = omega arith in w)
-fields_once (x ∷ xs) [] s t l e = let z : ◌≡◌ {A = ℕ} 0 1 = cc in absurd (let w : ⊥ = omega arith in w)
+fields_once [] (y ∷ ys) s t l e = cc
+fields_once (x ∷ xs) [] s t l e = cc
 fields_once (x ∷ xs) (y ∷ ys) s t l e =
     let h = cut_once x y (joined (λ f. f) xs ++ s) (joined (λ f. f) ys ++ t) (cc)
     (sym (append_assoc x (joined (λ f. f) xs) s) ∙ e ∙ append_assoc y (joined (λ f. f) ys) t) in
@@ -77,16 +77,16 @@ change_once (gone k n) (gone l m) s t g h e =
     let long = octets_of_lem (key_length k) n ∙ ap key_length kind ∙ sym (octets_of_lem (key_length l) m) in
     let r = cut_once (in_octets (key_length k) n) (in_octets (key_length l) m) s t long (ap (drop 1) e) in
     (ap₂ gone kind (key_once k l n m kind g h r.0), r.1)
-change_once (gone k n) (new y) s t g h e = let o = ap first e in absurd (let w : ⊥ = omega (arith, g.most, h.known.least) in w)
-change_once (gone k n) (changed b y) s t g h e = let o = ap first e in absurd (let w : ⊥ = omega (arith, g.most, h.known.least) in w)
-change_once (new x) (gone l m) s t g h e = let o = ap first e in absurd (let w : ⊥ = omega (arith, h.most, g.known.least) in w)
+change_once (gone k n) (new y) s t g h e = let o = ap first e in absurd (omega (arith, g.most, h.known.least))
+change_once (gone k n) (changed b y) s t g h e = let o = ap first e in absurd (omega (arith, g.most, h.known.least))
+change_once (new x) (gone l m) s t g h e = let o = ap first e in absurd (omega (arith, h.most, g.known.least))
 change_once (new x) (new y) s t g h e =
     let o = ap first e in
     let r = record_once x y s t g h (omega arith) (ap (drop 1) e) in
     (ap new r.0, r.1)
-change_once (new x) (changed b y) s t g h e = let o = ap first e in absurd (let w : ⊥ = omega (arith, g.known.most, h.known.least) in w)
-change_once (changed b x) (gone l m) s t g h e = let o = ap first e in absurd (let w : ⊥ = omega (arith, h.most, g.known.least) in w)
-change_once (changed b x) (new y) s t g h e = let o = ap first e in absurd (let w : ⊥ = omega (arith, h.known.most, g.known.least) in w)
+change_once (new x) (changed b y) s t g h e = let o = ap first e in absurd (omega (arith, g.known.most, h.known.least))
+change_once (changed b x) (gone l m) s t g h e = let o = ap first e in absurd (omega (arith, h.most, g.known.least))
+change_once (changed b x) (new y) s t g h e = let o = ap first e in absurd (omega (arith, h.known.most, g.known.least))
 change_once (changed b x) (changed c y) s t g h e =
     let o = ap first e in
     let r = record_once x y s t g h (omega arith) (ap (drop 2) e) in

@@ -23,10 +23,10 @@ use Rattle.sheet.specs.Entries.{parameter_from, parameter_at, item_from, item_at
 use Rattle.sheet.specs.Judging.{judged_region, judged_parameter, judged_item, judged_tolerance, judged_release}
 use Rattle.sheet.specs.Kinds.{is_kind, size_of, misplaced_of, end_before, least_number, least_code}
 use Rattle.sheet.specs.Reading.{region_of, parameter_of, item_of, tolerance_of, release_of, body_of, record_of, tail_of}
+use Rattle.sheet.specs.Told.{reads}
 use Rattle.sheet.specs.declared.entries.Parameter.{Parameter}
 use Rattle.sheet.specs.declared.entries.Item.{Item}
 use Rattle.sheet.specs.declared.records.Counts.{Counts}
-use Rattle.sheet.specs.declared.records.Reading.TheVariants.{Record}
 use Rattle.sheet.proofs.Steps.{region_there, parameter_there, code_there}
 use Rattle.law.specs.Words.{Every, Some, joined}
 use Rattle.law.specs.Sheet.{Region as Area, Parameter as Param, Item as Ident, GoodRegion, GoodParameter, GoodItem, GoodRelease, InRegion, region_octets, parameter_octets, item_octets, tolerance_octets, release_octets}
@@ -52,9 +52,9 @@ module _ (s : List ℕ) (kind size : ℕ) (body : List ℕ) (so : Counts) where
       → size ≤ length (kind ∷ body) → record_of s (kind ∷ body) so ≡ body_of kind s (kind ∷ body) so
   unfolding record_of
   behind_link l m k e f =
-      let z : eqb (length (kind ∷ body)) 0 ≡ false = ne_eqb _ _ (λ (q : length (kind ∷ body) ≡ 0). let w : ⊥ = omega arith in w) in
+      let z : eqb (length (kind ∷ body)) 0 ≡ false = ne_eqb _ _ (λ (q : length (kind ∷ body) ≡ 0). omega arith) in
       let u : size_of kind ≤ length (kind ∷ body) = omega arith in
-      let d : eqb (length (kind ∷ body)) (length s) ≡ false = ne_eqb _ _ (λ (q : length (kind ∷ body) ≡ length s). let w : ⊥ = omega arith in w) in
+      let d : eqb (length (kind ∷ body)) (length s) ≡ false = ne_eqb _ _ (λ (q : length (kind ∷ body) ≡ length s). omega arith) in
       pick_no _ _ z ∙ pick_no _ _ (ap not k) ∙ pick_no _ _ (ap (λ (b : Bool). misplaced_of b kind so) d ∙ m) ∙ pick_ge _ _ u
 
 -- what is behind a place is shorter than the whole
@@ -63,13 +63,13 @@ shorter s t at e a l = let d : length t ≡ length s - at = sym (ap length e) �
 
 module _ (s : List ℕ) where
   judged_area : (r : Area) (n m end : ℕ) → GoodRegion r → end ≤ r.start → n < 32 → m + r.length ≤ 65536
-      → judged_region (as_region r) end (counts n 0 0 m) ≡ Record 10 (counts (n + 1) 0 0 (m + r.length))
+      → judged_region (as_region r) end (counts n 0 0 m) ≡ reads 10 (counts (n + 1) 0 0 (m + r.length))
   unfolding judged_region
   judged_area r n m end g l u w =
-      pick_ne _ _ (λ (z : r.length ≡ 0). let k : ⊥ = omega (arith, g.least) in k) ∙ pick_ge _ _ g.ends ∙ pick_ge _ _ g.bits ∙ pick_gt _ _ u ∙ pick_ge _ _ w ∙ pick_ge _ _ l
+      pick_ne _ _ (λ (z : r.length ≡ 0). omega (arith, g.least)) ∙ pick_ge _ _ g.ends ∙ pick_ge _ _ g.bits ∙ pick_gt _ _ u ∙ pick_ge _ _ w ∙ pick_ge _ _ l
 
   pub read_area : (r : Area) (t : List ℕ) (n m : ℕ) → drop (4 + 10 * n) s ≡ region_octets r ++ t → GoodRegion r → end_before s (counts n 0 0 m) ≤ r.start → n < 32
-      → m + r.length ≤ 65536 → record_of s (region_octets r ++ t) (counts n 0 0 m) ≡ Record 10 (counts (n + 1) 0 0 (m + r.length))
+      → m + r.length ≤ 65536 → record_of s (region_octets r ++ t) (counts n 0 0 m) ≡ reads 10 (counts (n + 1) 0 0 (m + r.length))
   unfolding body_of region_of size_of is_kind misplaced_of
   read_area r t n m at g l u w =
       behind_link s 2 10 _ (counts n 0 0 m) (shorter s (region_octets r ++ t) (4 + 10 * n) at (omega arith) (omega arith)) refl refl
@@ -84,7 +84,7 @@ module _ (s : List ℕ) where
   pub next_area : (r : Area) (t : List ℕ) (n m : ℕ) → drop (4 + 10 * n) s ≡ region_octets r ++ t → GoodRegion r → end_before s (counts (n + 1) 0 0 m) ≡ r.start + r.length
   unfolding end_before
   next_area r t n m at g =
-      pick_ne _ _ (λ (z : n + 1 ≡ 0). let k : ⊥ = omega arith in k)
+      pick_ne _ _ (λ (z : n + 1 ≡ 0). omega arith)
       ∙ ap (λ (i : ℕ). (region_at s i).start + (region_at s i).length) (let e : n + 1 - 1 ≡ n = omega arith in e)
       ∙ ap (λ (q : Region). q.start + q.length) (area_at r t n at g)
 
@@ -122,14 +122,14 @@ module _ (s : List ℕ) where
         ∙ before_all (map as_region rs) Mapped p.address p.size (λ x l u. has_grants rs x (g.spans x l u)))
 
     judged_param : (p : Param) (n least : ℕ) (mapped : Bool) → GoodParameter rs p → mapped ≡ true → least ≤ p.number → n < 64
-        → judged_parameter (as_parameter p) least mapped (params_read n) ≡ Record 8 (params_read (n + 1))
+        → judged_parameter (as_parameter p) least mapped (params_read n) ≡ reads 8 (params_read (n + 1))
     unfolding judged_parameter
     judged_param p n least mapped g e l u =
-        pick_ne _ _ (λ (z : p.size ≡ 0). let k : ⊥ = omega (arith, g.least) in k) ∙ pick_ge _ _ g.most ∙ pick_gt _ _ u ∙ pick_ge _ _ l
+        pick_ne _ _ (λ (z : p.size ≡ 0). omega (arith, g.least)) ∙ pick_ge _ _ g.most ∙ pick_gt _ _ u ∙ pick_ge _ _ l
         ∙ pick_no _ _ (ap not e)
 
     pub read_param : (p : Param) (t : List ℕ) (n : ℕ) → drop (4 + 10 * length rs + 8 * n) s ≡ parameter_octets p ++ t → GoodParameter rs p
-        → least_number s (params_read n) ≤ p.number → n < 64 → record_of s (parameter_octets p ++ t) (params_read n) ≡ Record 8 (params_read (n + 1))
+        → least_number s (params_read n) ≤ p.number → n < 64 → record_of s (parameter_octets p ++ t) (params_read n) ≡ reads 8 (params_read (n + 1))
     unfolding body_of parameter_of size_of is_kind misplaced_of
     read_param p t n at g l u =
         behind_link s 3 8 _ (params_read n) (shorter s (parameter_octets p ++ t) (4 + 10 * length rs + 8 * n) at (omega arith) (omega arith)) refl refl
@@ -147,7 +147,7 @@ module _ (s : List ℕ) where
         → least_number s (params_read (n + 1)) ≡ suc p.number
     unfolding least_number
     next_param p t n at g =
-        pick_ne _ _ (λ (z : n + 1 ≡ 0). let k : ⊥ = omega arith in k)
+        pick_ne _ _ (λ (z : n + 1 ≡ 0). omega arith)
         ∙ ap (λ (i : ℕ). (parameter_at s (length rs) i).number + 1) (let e : n + 1 - 1 ≡ n = omega arith in e)
         ∙ ap (λ (q : Parameter). q.number + 1) (param_at p t n at g) ∙ add-one p.number
 
@@ -165,13 +165,13 @@ module _ (s : List ℕ) where
         ap all_zero (ap (take (32 - z)) e₁ ∙ e₂) ∙ zeros_zero (drop z i.octets) g.zeros
 
     judged_ident : (i : Item) (n least : ℕ) (tail : Bool) → 1 ≤ i.length → i.length ≤ 32 → tail ≡ true → least ≤ i.code → n < 32
-        → judged_item i tail least (idents_read n) ≡ Record 35 (idents_read (n + 1))
+        → judged_item i tail least (idents_read n) ≡ reads 35 (idents_read (n + 1))
     unfolding judged_item
     judged_ident i n least tail some most e l u =
-        pick_ne _ _ (λ (z : i.length ≡ 0). let k : ⊥ = omega arith in k) ∙ pick_ge _ _ most ∙ pick_no _ _ (ap not e) ∙ pick_gt _ _ u ∙ pick_ge _ _ l
+        pick_ne _ _ (λ (z : i.length ≡ 0). omega arith) ∙ pick_ge _ _ most ∙ pick_no _ _ (ap not e) ∙ pick_gt _ _ u ∙ pick_ge _ _ l
 
     pub read_ident : (i : Ident) (t : List ℕ) (n : ℕ) → drop (4 + 10 * r + 8 * p + 35 * n) s ≡ item_octets i ++ t → GoodItem i
-        → least_code s (idents_read n) ≤ i.code → n < 32 → record_of s (item_octets i ++ t) (idents_read n) ≡ Record 35 (idents_read (n + 1))
+        → least_code s (idents_read n) ≤ i.code → n < 32 → record_of s (item_octets i ++ t) (idents_read n) ≡ reads 35 (idents_read (n + 1))
     unfolding body_of item_of item_from size_of is_kind misplaced_of
     read_ident i t n at g l u =
         let a = length-append i.octets t in
@@ -185,21 +185,21 @@ module _ (s : List ℕ) where
         → least_code s (idents_read (n + 1)) ≡ suc i.code
     unfolding least_code item_from
     next_ident i t n at g =
-        pick_ne _ _ (λ (z : n + 1 ≡ 0). let k : ⊥ = omega arith in k)
+        pick_ne _ _ (λ (z : n + 1 ≡ 0). omega arith)
         ∙ ap (λ (k : ℕ). (item_at s r p k).code + 1) (let e : n + 1 - 1 ≡ n = omega arith in e)
         ∙ ap (λ (c : ℕ). c + 1) (sym (code_there s (4 + 10 * r + 8 * p + 35 * n)) ∙ ap (λ (l : List ℕ). get_or l 1 0) at) ∙ add-one i.code
 
   -- the tolerance stands once
   module _ (r p k m : ℕ) where
-    judged_once : (x : ℕ) → x ≤ 3 → judged_tolerance x (full r p k 0 0 m) ≡ Record 2 (full r p k 1 0 m)
+    judged_once : (x : ℕ) → x ≤ 3 → judged_tolerance x (full r p k 0 0 m) ≡ reads 2 (full r p k 1 0 m)
     unfolding judged_tolerance
     judged_once x g = pick_ge _ _ g
 
     pub read_tolerance : (x : ℕ) (t : List ℕ) (n : ℕ) → drop (4 + 10 * r + 8 * p + 35 * k + 2 * n) s ≡ tolerance_octets x ++ t → x ≤ 3 → n < 1
-        → record_of s (tolerance_octets x ++ t) (full r p k n 0 m) ≡ Record 2 (full r p k (n + 1) 0 m)
+        → record_of s (tolerance_octets x ++ t) (full r p k n 0 m) ≡ reads 2 (full r p k (n + 1) 0 m)
     unfolding body_of tolerance_of size_of is_kind misplaced_of
     read_tolerance x t n at g u =
-        subst (λ (i : ℕ). record_of s (tolerance_octets x ++ t) (full r p k i 0 m) ≡ Record 2 (full r p k (i + 1) 0 m)) (let z : 0 ≡ n = omega arith in z)
+        subst (λ (i : ℕ). record_of s (tolerance_octets x ++ t) (full r p k i 0 m) ≡ reads 2 (full r p k (i + 1) 0 m)) (let z : 0 ≡ n = omega arith in z)
         (behind_link s 6 2 _ (full r p k 0 0 m) (shorter s (tolerance_octets x ++ t) (4 + 10 * r + 8 * p + 35 * k + 2 * n) at (omega arith) (omega arith)) refl refl
         (pick_no _ _ refl ∙ pick_no _ _ refl ∙ pick_no _ _ refl ∙ pick_no _ _ refl ∙ pick_no _ _ refl) (omega arith)
         ∙ pick_no _ _ refl ∙ pick_no _ _ refl ∙ pick_no _ _ refl ∙ pick_no _ _ refl ∙ pick_no _ _ refl ∙ pick_yes _ _ refl
@@ -207,15 +207,15 @@ module _ (s : List ℕ) where
 
   -- and so does the release
   module _ (r p k q m : ℕ) where
-    picked_once : (x : ℕ) → GoodRelease x → judged_release x (full r p k q 0 m) ≡ Record 2 (full r p k q 1 m)
+    picked_once : (x : ℕ) → GoodRelease x → judged_release x (full r p k q 0 m) ≡ reads 2 (full r p k q 1 m)
     unfolding judged_release
-    picked_once x g = pick_ne _ _ (λ (z : x ≡ 0). let w : ⊥ = omega (arith, g.0) in w) ∙ pick_ge _ _ g.1
+    picked_once x g = pick_ne _ _ (λ (z : x ≡ 0). omega (arith, g.0)) ∙ pick_ge _ _ g.1
 
     pub read_release : (x : ℕ) (t : List ℕ) (n : ℕ) → drop (4 + 10 * r + 8 * p + 35 * k + 2 * q + 2 * n) s ≡ release_octets x ++ t → GoodRelease x → n < 1
-        → record_of s (release_octets x ++ t) (full r p k q n m) ≡ Record 2 (full r p k q (n + 1) m)
+        → record_of s (release_octets x ++ t) (full r p k q n m) ≡ reads 2 (full r p k q (n + 1) m)
     unfolding body_of release_of size_of is_kind misplaced_of
     read_release x t n at g u =
-        subst (λ (i : ℕ). record_of s (release_octets x ++ t) (full r p k q i m) ≡ Record 2 (full r p k q (i + 1) m)) (let z : 0 ≡ n = omega arith in z)
+        subst (λ (i : ℕ). record_of s (release_octets x ++ t) (full r p k q i m) ≡ reads 2 (full r p k q (i + 1) m)) (let z : 0 ≡ n = omega arith in z)
         (behind_link s 7 2 _ (full r p k q 0 m) (shorter s (release_octets x ++ t) (4 + 10 * r + 8 * p + 35 * k + 2 * q + 2 * n) at (omega arith) (omega arith)) refl refl
         (pick_no _ _ refl ∙ pick_no _ _ refl ∙ pick_no _ _ refl ∙ pick_no _ _ refl ∙ pick_no _ _ refl) (omega arith)
         ∙ pick_no _ _ refl ∙ pick_no _ _ refl ∙ pick_no _ _ refl ∙ pick_no _ _ refl ∙ pick_no _ _ refl ∙ pick_no _ _ refl

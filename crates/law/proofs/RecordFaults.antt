@@ -1,14 +1,15 @@
 -- The fault that the walk tells is the first by the paper's order, at the first record that has one.
-use mathlib.Core.Bool.{Bool, true, false, not, true≢false}
+use mathlib.Core.Bool.{true, false, true≢false}
 use mathlib.Core.Logic.{⊎_elim, ◌↔◌}
 use mathlib.Core.Path.{◌≡◌, refl, sym, ap, subst, ◌∙◌}
 use mathlib.Core.List.{List, [], ◌∷◌, ◌++◌}
 use Prim.Native.Nat.{ℕ, zero, suc, ◌+◌, ◌-◌, ◌*◌, ◌≤◌, ◌<◌}
 use native.Mathlib.Omega.{arith}
-use borrow.Author.Tests.{eqb-true, eqb-false, ltb-true, ltb-false, leb-true, leb-false, eq-eqb, not-false}
+use borrow.Author.Tests.{eqb-true, eqb-false, ltb-true, ltb-false, leb-true, leb-false, eq-eqb, not-false, not-true}
 use lib.Dec.{eqb}
 use lib.ListN.{length, get_or, take, drop, length-append, length-drop}
 use lib.Seq.{drop-drop, length-take-le}
+use Rattle.std.specs.Prelude.{Err}
 use Rattle.octets.specs.Parts.{all_zero}
 use Rattle.octets.specs.Pick.{pick}
 use Rattle.octets.proofs.Cases.{decided, eq_or_ne}
@@ -28,7 +29,6 @@ use Rattle.sheet.specs.declared.entries.Parameter.{Parameter}
 use Rattle.sheet.specs.declared.records.Counts.{Counts}
 use Rattle.sheet.specs.declared.records.Fault.{Fault}
 use Rattle.sheet.specs.declared.records.Fault.TheVariants.{Range, Disorder, Excess, Unmapped}
-use Rattle.sheet.specs.declared.records.Reading.TheVariants.{Bad}
 use Rattle.law.specs.Words.{Every, InARow, Some}
 use Rattle.law.specs.Sheet.{Region as Area, Parameter as Param, Item as Ident, GoodRegion, GoodItem, GoodRelease, IsOctet, InRegion, room}
 use Rattle.law.specs.Faults.{RegionFault, ParameterFault, ItemFault, ToleranceFault, ReleaseFault}
@@ -52,10 +52,6 @@ has_listed f k (suc m) a e =
     e)
     (decided (holds_of (f k) a))
 
-not_true : (b : Bool) → not b ≡ true → b ≡ false
-not_true true e = sym e
-not_true false e = refl
-
 -- a number compared with one more than the last before it, or with 0
 lower_least : (n last x : ℕ) → ((n ≡ 0 → ⊥) → last < x) → pick (eqb n 0) 0 (last + 1) ≤ x
 lower_least n last x l =
@@ -68,12 +64,12 @@ least_lower : (n last x : ℕ) → pick (eqb n 0) 0 (last + 1) ≤ x → (n ≡ 
 least_lower n last x l z = let q : last + 1 ≤ x = subst (λ (k : ℕ). k ≤ x) (pick_ne _ _ z) l in omega arith
 
 -- request 9's record has one check
-pub tolerance_fault : (so : Counts) (fault : Fault) (x : ℕ) → (judged_tolerance x so ≡ Bad fault) ↔ ToleranceFault x (number_of fault)
+pub tolerance_fault : (so : Counts) (fault : Fault) (x : ℕ) → (judged_tolerance x so ≡ Err fault) ↔ ToleranceFault x (number_of fault)
 unfolding judged_tolerance number_of
 tolerance_fault so fault x = decides _ Range _ refl (λ t q. let e = ltb-true 3 x t in omega (arith, q, e)) (λ t. passes (ltb-false 3 x t) no_more)
 
 -- request 13's has two
-pub release_fault : (so : Counts) (fault : Fault) (x : ℕ) → (judged_release x so ≡ Bad fault) ↔ ReleaseFault x (number_of fault)
+pub release_fault : (so : Counts) (fault : Fault) (x : ℕ) → (judged_release x so ≡ Err fault) ↔ ReleaseFault x (number_of fault)
 unfolding judged_release number_of
 release_fault so fault x =
     decides _ Range _ refl (λ t (q : GoodRelease x). let e = eqb-true x 0 t in omega (arith, q.0, e)) (λ t₁.
@@ -97,7 +93,7 @@ module _ (s : List ℕ) (so : Counts) (fault : Fault) (memory : room (read_sheet
   end_lower r l z = subst (λ (n : ℕ). n ≤ r.start) (pick_ne _ _ z) l
 
   pub area_fault : (r : Region) → InARow (λ (a b : Area). a.start + a.length ≤ b.start) (read_sheet s so).regions → r.start < 4294967296 → r.length < 4294967296
-      → (judged_region r (end_before s so) so ≡ Bad fault) ↔ RegionFault (read_sheet s so) (as_area r) (number_of fault)
+      → (judged_region r (end_before s so) so ≡ Err fault) ↔ RegionFault (read_sheet s so) (as_area r) (number_of fault)
   unfolding judged_region number_of
   area_fault r apart a b =
       let g : ℕ → Area = λ i. as_area (region_at s i) in
@@ -120,7 +116,7 @@ module _ (s : List ℕ) (so : Counts) (fault : Fault) (memory : room (read_sheet
       no_more))))))))
 
   pub param_fault : (p : Parameter)
-      → (judged_parameter p (least_number s so) (span_has (regions_of s so.regions) Mapped p.address p.size) so ≡ Bad fault)
+      → (judged_parameter p (least_number s so) (span_has (regions_of s so.regions) Mapped p.address p.size) so ≡ Err fault)
       ↔ ParameterFault (read_sheet s so) (as_param p) (number_of fault)
   unfolding judged_parameter number_of least_number
   param_fault p =
@@ -143,7 +139,7 @@ module _ (s : List ℕ) (so : Counts) (fault : Fault) (memory : room (read_sheet
       (decides _ Unmapped _ refl
       (λ t q.
       true≢false (sym (eq-eqb _ _ (before_all (regions_of s rs) Mapped p.address p.size (λ x l u. has_listed (region_at s) 0 rs x (q x l u))))
-      ∙ not_true _ t)) (λ t₅.
+      ∙ not-true _ t)) (λ t₅.
       passes (λ x l u. grants_has (region_at s) 0 rs x (all_before (regions_of s rs) Mapped p.address p.size (eqb-true _ _ (not-false _ t₅)) x l u))
       no_more))))))))
 
@@ -154,7 +150,7 @@ module _ (s : List ℕ) (so : Counts) (fault : Fault) (memory : room (read_sheet
         let z = get_or rest 2 0 in
         ap (take (32 - z)) (sym (drop-drop z 3 rest)) ∙ sym (drop_take z 32 (drop 3 rest))
 
-    pub ident_fault : (judged_item (item_from rest 0) (all_zero (tail_of rest)) (least_code s so) so ≡ Bad fault)
+    pub ident_fault : (judged_item (item_from rest 0) (all_zero (tail_of rest)) (least_code s so) so ≡ Err fault)
         ↔ ItemFault (read_sheet s so) (ident_from rest 0) (number_of fault)
     unfolding judged_item number_of least_code item_from
     ident_fault =
@@ -165,7 +161,7 @@ module _ (s : List ℕ) (so : Counts) (fault : Fault) (memory : room (read_sheet
         let len : length (listed g 0 n ++ i ∷ []) ≡ n + 1 = length-append (listed g 0 n) (i ∷ []) ∙ ap (λ (k : ℕ). k + 1) (length_listed g 0 n) in
         decides _ Range _ refl (λ t (q : GoodItem i). let e = eqb-true (get_or rest 2 0) 0 t in omega (arith, q.least, e)) (λ t₁.
         decides _ Range _ refl (λ t (q : GoodItem i). let e = ltb-true 32 (get_or rest 2 0) t in omega (arith, q.most, e)) (λ t₂.
-        decides _ Range _ refl (λ t (q : GoodItem i). true≢false (sym (ap all_zero tail_is ∙ zeros_zero _ q.zeros) ∙ not_true _ t)) (λ t₃.
+        decides _ Range _ refl (λ t (q : GoodItem i). true≢false (sym (ap all_zero tail_is ∙ zeros_zero _ q.zeros) ∙ not-true _ t)) (λ t₃.
         let z = eqb-false (get_or rest 2 0) 0 t₁ in
         passes (record {
           code = octet_at rest octs 1;

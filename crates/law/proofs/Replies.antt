@@ -9,6 +9,7 @@ use borrow.Author.Tests.{ltb-true, eqb-true, ne_eqb}
 use lib.Dec.{eqb, ltb}
 use lib.ListN.{length, get_or, replicate, length-replicate, get_or-replicate}
 use lib.Seq.{ext_get_or}
+use Rattle.std.proofs.lemmas.Bool.{and_parts}
 use Rattle.octets.proofs.Cases.{eq_or_ne}
 use Rattle.frame.specs.Body.{reply_of, Fitting}
 use Rattle.frame.specs.Fields.{command_of}
@@ -42,10 +43,6 @@ abbrev small_rows : List Row → Bool
 small_rows [] = true
 small_rows (r ∷ rs) = small_checks r.checks && small_rows rs
 
-both : (a b : Bool) → a && b ≡ true → (a ≡ true) × (b ≡ true)
-both true b e = (refl, e)
-both false b e = absurd (let z : ◌≡◌ {A = ℕ} 0 1 = cc in let v : ⊥ = omega arith in v)
-
 when_both : (P : Fate → Type 0) (b : Bool) {x y : Fate} → P x → P y → P (when b x y)
 unfolding when
 when_both P true p q = p
@@ -62,14 +59,14 @@ checked_small : (s : List ℕ) (ks : List Check) (r : Row) → small_checks ks �
 unfolding checked
 checked_small s [] r e = omega arith
 checked_small s (k ∷ ks) r e =
-    let p = both (ltb k.alarm 16) (small_checks ks) e in
+    let p = and_parts (ltb k.alarm 16) (small_checks ks) e in
     when_both Small k.holds (checked_small s ks r p.1) (refused_small s k.alarm k.place (ltb-true k.alarm 16 p.0))
 
 judged_small : (s : List ℕ) (code : ℕ) (rs : List Row) → small_rows rs ≡ true → Small (judged s code rs)
 unfolding judged
 judged_small s code [] e = refused_small s 8 0 (omega arith)
 judged_small s code (r ∷ rs) e =
-    let p = both (small_checks r.checks) (small_rows rs) e in
+    let p = and_parts (small_checks r.checks) (small_rows rs) e in
     when_both Small (eqb code r.code) (checked_small s _ r p.0) (judged_small s code rs p.1)
 
 small_table : (h : Sheet) (s m c : List ℕ) (pdu : PduType) → small_rows (table_of h s m c pdu) ≡ true

@@ -20,9 +20,9 @@ pub every_map : {A B : Type 0} (Good : A → Type 0) (P : B → Type 0) (g : A �
 every_map Good P g one [] p = tt
 every_map Good P g one (x ∷ xs) p = (one x p.0, every_map Good P g one xs p.1)
 
-every_of : {A : Type 0} (P Q : A → Type 0) → ((x : A) → P x → Q x) → (xs : List A) → Every P xs → Every Q xs
-every_of P Q one [] p = tt
-every_of P Q one (x ∷ xs) p = (one x p.0, every_of P Q one xs p.1)
+pub every_weaker : {A : Type 0} (P Q : A → Type 0) → ((x : A) → P x → Q x) → (xs : List A) → Every P xs → Every Q xs
+every_weaker P Q one [] p = tt
+every_weaker P Q one (x ∷ xs) p = (one x p.0, every_weaker P Q one xs p.1)
 
 every_one : {A : Type 0} (P : A → Type 0) → ((x : A) → P x) → (xs : List A) → Every P xs
 every_one P one [] = tt
@@ -64,7 +64,7 @@ apart_rise (x ∷ xs) s r = starts_rise x xs s.0 s.1 r
 at_most_one : {A : Type 0} (R : A → A → Type 0) (xs : List A) → length xs ≤ 1 → InARow R xs
 at_most_one R [] l = tt
 at_most_one R (x ∷ []) l = tt
-at_most_one R (x ∷ y ∷ ys) l = absurd (let w : ⊥ = omega arith in w)
+at_most_one R (x ∷ y ∷ ys) l = absurd (omega arith)
 
 link_rank : (pdu : PduType) → rank (link_kind pdu) 0 ≡ 4294967296
 unfolding rank when
@@ -86,14 +86,14 @@ entries_rise h w =
     kind_above tolerance_entry (λ n. 0) 6 (λ n. refl) er r h.tolerances (zero-key h.tolerances) (at_most_one _ h.tolerances w.once) in
     let i : (b : ℕ) → b < 4294967296 * 4 → Above b ei =
     kind_above item_entry (λ x. x.code) 4 (λ x. refl) et (λ b l. t b (omega arith)) h.items
-    (every_of GoodItem (λ (x : Ident). x.code < 4294967296) (λ x g. omega (arith, g.code)) h.items w.items) w.codes_rise in
+    (every_weaker GoodItem (λ (x : Ident). x.code < 4294967296) (λ x g. omega (arith, g.code)) h.items w.items) w.codes_rise in
     let p : (b : ℕ) → b < 4294967296 * 3 → Above b ep =
     kind_above parameter_entry (λ x. x.number) 3 (λ x. refl) ei i h.parameters
-    (every_of (GoodParameter h.regions) (λ (x : Param). x.number < 4294967296) (λ x g. omega (arith, g.number)) h.parameters w.parameters)
+    (every_weaker (GoodParameter h.regions) (λ (x : Param). x.number < 4294967296) (λ x g. omega (arith, g.number)) h.parameters w.parameters)
     w.numbers_rise in
     let a : (b : ℕ) → b < 4294967296 * 2 → Above b (map region_entry h.regions ++ ep) =
     kind_above region_entry (λ x. x.start) 2 (λ x. refl) ep p h.regions
-    (every_of GoodRegion (λ (x : Area). x.start < 4294967296) (λ x g. g.start) h.regions w.regions)
+    (every_weaker GoodRegion (λ (x : Area). x.start < 4294967296) (λ x g. g.start) h.regions w.regions)
     (apart_rise h.regions w.regions w.apart) in
     above_from (link_entry h) (map region_entry h.regions ++ ep) (a (rank_of (link_entry h)) (omega (arith, link_rank h.pdu)))
 

@@ -8,6 +8,7 @@ use native.Mathlib.Omega.{arith}
 use borrow.Author.Tests.{leb-true, eqb-true}
 use lib.Dec.{eqb, ltb}
 use lib.ListN.{length, take, drop, length-take, length-drop}
+use Rattle.std.specs.Prelude.{Option}
 use Rattle.octets.specs.Parts.{part, put_at}
 use Rattle.octets.specs.Pick.{pick}
 use Rattle.frame.specs.Body.{memory_after}
@@ -27,17 +28,18 @@ use Rattle.link.specs.Stored.{octets_of}
 use Rattle.link.specs.declared.state.LinkState.{LinkState}
 use Rattle.link.proofs.Facts.{Facts}
 use Rattle.machine.specs.Connecting.{profile_fits, connect_of}
+use Rattle.machine.specs.Judgements.{Judgement, alarm_number, accepted, refused as refusal}
 use Rattle.machine.specs.Judging.{parameter_data, parameter_of, item_data, item_of, clear_of}
 use Rattle.machine.specs.Outcomes.{counting, finished}
 use Rattle.machine.specs.Spans.{granted_of, span_of, moved, right_of}
+use Rattle.machine.specs.declared.codes.Alarm.{Alarm}
+use Rattle.machine.specs.declared.codes.Alarm.TheVariants.{OutOfRange, NoRight}
 use Rattle.machine.specs.declared.words.Carrier.{Carrier}
-use Rattle.machine.specs.declared.words.Carrier.TheVariants.{Parameter}
+use Rattle.machine.specs.declared.words.Carrier.TheVariants.{Parameter as ByParameter}
 use Rattle.machine.specs.declared.words.Effect.{Effect}
 use Rattle.machine.specs.declared.words.Effect.TheVariants.{Quiet, Identifies, Connects}
 use Rattle.machine.specs.declared.words.Field.{Field}
-use Rattle.machine.specs.declared.words.Field.TheVariants.{Number, Item, Address, Profile, Span}
-use Rattle.machine.specs.declared.words.Judgement.{Judgement}
-use Rattle.machine.specs.declared.words.Judgement.TheVariants.{Refused, Accepted}
+use Rattle.machine.specs.declared.words.Field.TheVariants.{Number, Item as ItemField, Address, Profile, Span}
 use Rattle.machine.specs.declared.words.Outcome.{Outcome}
 use Rattle.regions.specs.Region.{regions_of, gives_of}
 use Rattle.regions.specs.Search.{before_of, span_place}
@@ -45,8 +47,8 @@ use Rattle.regions.specs.declared.Region.{Region}
 use Rattle.regions.specs.declared.Right.TheVariants.{Mapped}
 use Rattle.regions.proofs.Spans.{span_mapped}
 use Rattle.sheet.specs.Entries.{sought_parameter}
-use Rattle.sheet.specs.declared.entries.SoughtItem.{SoughtItem}
-use Rattle.sheet.specs.declared.entries.SoughtParameter.{SoughtParameter}
+use Rattle.sheet.specs.declared.entries.Item.{Item}
+use Rattle.sheet.specs.declared.entries.Parameter.{Parameter}
 use Rattle.sheet.specs.declared.walk.Form.{Form}
 use Rattle.sheet.specs.declared.walk.Form.TheVariants.{Enhanced, Short}
 use Rattle.sheet.specs.declared.walk.Layout.{Layout}
@@ -59,7 +61,7 @@ use Rattle.law.proofs.World.{data_piece, written, World, mapped_is}
 
 -- what a type's lengths are to the frame
 pub pdu_sized : (pdu : PduType) (l : ℕ) → 8 ≤ l → GoodLength pdu l → Sized (form_for pdu) l
-pdu_sized enhanced l long good = sized Enhanced l long (λ e. absurd (let z : ◌≡◌ {A = ℕ} 0 1 = cc in let w : ⊥ = omega arith in w))
+pdu_sized enhanced l long good = sized Enhanced l long (λ e. cc)
 pdu_sized short l long good = sized Short l long (λ e. good)
 
 module _ (pdu : PduType) (h : Sheet) (sheet : List ℕ) (st : LinkState) (m c : List ℕ) where
@@ -94,21 +96,21 @@ module _ (pdu : PduType) (h : Sheet) (sheet : List ℕ) (st : LinkState) (m c : 
     moves next ps g = subst (λ (n : ℕ). Moves st (counting st next (n % 16)) sent ps) (sym wdt-is) g
 
     -- a refusal is about a field, and tells the place where frame says that it begins
-    pub refusing : (a : ℕ) (field : Field) (place : ℕ) → Tells field place → J (Refused a field) (refused s a place)
+    pub refusing : (a : Alarm) (field : Field) (place : ℕ) → Tells field place → J (refusal a field) (refused s (alarm_number a) place)
     unfolding finished refused laid
     refusing a field place at =
-        record { same = record { alarm = refl; place = at.told; next = moves (latched st a) _ (goes_latched sent st facts on a); body = λ k old. quiet_at sheet m c k old form; memory = quiet_keeps form c m ∙ sym (stored_none (cells h.regions) m whole) } }
+        record { same = record { alarm = refl; place = at.told; next = moves (latched st (alarm_number a)) _ (goes_latched sent st facts on (alarm_number a)); body = λ k old. quiet_at sheet m c k old form; memory = quiet_keeps form c m ∙ sym (stored_none (cells h.regions) m whole) } }
 
     -- a judgement known otherwise
     pub via : {j k : Judgement} {f : Fate} → j ≡ k → J k f → J j f
     via {f = f} e g = subst (λ (x : Judgement). J x f) (sym e) g
 
     -- a check of both
-    pub step : (t b : Bool) (a : ℕ) {field : Field} {place : ℕ} {y : Judgement} {f : Fate} → Tells field place → t ≡ not b → (b ≡ true → J y f)
-        → J (pick t (Refused a field) y) (when b f (refused s a place))
+    pub step : (t b : Bool) (a : Alarm) {field : Field} {place : ℕ} {y : Judgement} {f : Fate} → Tells field place → t ≡ not b → (b ≡ true → J y f)
+        → J (pick t (refusal a field) y) (when b f (refused s (alarm_number a) place))
     unfolding pick when
-    step t true a {field} {place} {y} {f} at e g = subst (λ (x : Bool). J (pick x (Refused a field) y) f) (sym e) (g refl)
-    step t false a {field} {place} {y} {f} at e g = subst (λ (x : Bool). J (pick x (Refused a field) y) (refused s a place)) (sym e) (refusing a field place at)
+    step t true a {field} {place} {y} {f} at e g = subst (λ (x : Bool). J (pick x (refusal a field) y) f) (sym e) (g refl)
+    step t false a {field} {place} {y} {f} at e g = subst (λ (x : Bool). J (pick x (refusal a field) y) (refused s (alarm_number a) place)) (sym e) (refusing a field place at)
 
     pub found_or : (b : Bool) (a place : ℕ) {y : Judgement} {f : Fate} → (b ≡ true → J y f) → (b ≡ false → J y (refused s a place)) → J y (when b f (refused s a place))
     unfolding when
@@ -116,7 +118,7 @@ module _ (pdu : PduType) (h : Sheet) (sheet : List ℕ) (st : LinkState) (m c : 
     found_or false a place g k = k refl
 
     -- a row without octets
-    pub quiet : (next : LinkState) (ps : List Piece) → Goes st (counting st next sent) sent ps → J (Accepted Quiet next) (fate 0 0 ps [] [])
+    pub quiet : (next : LinkState) (ps : List Piece) → Goes st (counting st next sent) sent ps → J (accepted Quiet next) (fate 0 0 ps [] [])
     unfolding finished laid
     quiet next ps g =
         record { same = record { alarm = refl; place = whole_at.told; next = moves next _ g; body = λ k old. quiet_at sheet m c k old form; memory = quiet_keeps form c m ∙ sym (stored_none (cells h.regions) m whole) } }
@@ -124,7 +126,7 @@ module _ (pdu : PduType) (h : Sheet) (sheet : List ℕ) (st : LinkState) (m c : 
     -- a row with octets
     pub doing : (e : Effect) (next : LinkState) {ps body memory : List Piece} → Goes st (counting st next sent) sent ps
         → ((k old : ℕ) → body_at form e sheet m c k old ≡ laid body k old) → memory_after form e c m ≡ stored memory (cells h.regions) m
-        → J (Accepted e next) (fate 0 0 ps body memory)
+        → J (accepted e next) (fate 0 0 ps body memory)
     unfolding finished
     doing e next g b n = record { same = record { alarm = refl; place = whole_at.told; next = moves next _ g; body = b; memory = n } }
 
@@ -176,7 +178,7 @@ module _ (pdu : PduType) (h : Sheet) (sheet : List ℕ) (st : LinkState) (m c : 
       granted_row writes right a n same l x ns vs ks =
           let w = right_of writes st.link in
           let rs = map as_region h.regions in
-          step _ _ 10 (subst (Tells (Span (before_of rs w a n))) (sym (before_span right w same h.regions a n)) (span_at (before_of rs w a n))) (ap not (sym (all_span right w same h.regions a n))) (λ t.
+          step _ _ NoRight (subst (Tells (Span (before_of rs w a n))) (sym (before_span right w same h.regions a n)) (span_at (before_of rs w a n))) (ap not (sym (all_span right w same h.regions a n))) (λ t.
           let q = all_span mapped Mapped mapped_is h.regions a n ∙ span_mapped rs w a n (sym (all_span right w same h.regions a n) ∙ t) in
           doing (moved writes by (span_place rs a n) n) st kept (moved_body writes a n q) (moved_memory writes a n l q))
 
@@ -187,7 +189,7 @@ module _ (pdu : PduType) (h : Sheet) (sheet : List ℕ) (st : LinkState) (m c : 
           (row x ns vs ks [] (echo ∷ data_piece writes from (cells h.regions) m c a n ∷ []) (written writes from c a n)))
       unfolding span_of checked
       span_row writes right a n same l place at x ns vs ks =
-          step _ _ 9 at (ap not (sym (all_span mapped Mapped mapped_is h.regions a n))) (λ q. granted_row writes right a n same l x ns vs ks)
+          step _ _ OutOfRange at (ap not (sym (all_span mapped Mapped mapped_is h.regions a n))) (λ q. granted_row writes right a n same l x ns vs ks)
 
     -- rows that both types have, over what a type's table has of its own; only the code decides the row
     module _ (code : ℕ) (x : ℕ) (ns : List ℕ) (vs : List Run) (ks : List Check) where
@@ -195,7 +197,7 @@ module _ (pdu : PduType) (h : Sheet) (sheet : List ℕ) (st : LinkState) (m c : 
       lay = layout_as pdu h
 
       -- 01 PRM_RD, 02 PRM_WR
-      pub param_row : (most : ℕ) → most ≡ h.l - 8 → (echo : Piece) (from : ℕ) → Lays Parameter echo from
+      pub param_row : (most : ℕ) → most ≡ h.l - 8 → (echo : Piece) (from : ℕ) → Lays ByParameter echo from
           → (writes : Bool) (right : ℕ → Bool) → ((y : ℕ) → right y ≡ gives_of y (right_of writes st.link))
           → J (parameter_of writes sheet lay st (named form code c)) (checked s (param_checks h s m c most ++ parameter_rights h s m c right)
           (row x ns vs ks [] (echo ∷ data_piece writes from (cells h.regions) m c (param h s m c).address (param h s m c).size ∷ [])
@@ -208,15 +210,15 @@ module _ (pdu : PduType) (h : Sheet) (sheet : List ℕ) (st : LinkState) (m c : 
           let same_number : (named form code c).number ≡ n = two_octets c _ in
           let at = ap₂ sought_parameter world.parameters same_number in
           found_or _ 9 _ (λ b.
-          via (ap (λ (y : SoughtParameter). parameter_data writes (regions_of sheet (length h.regions)) lay st (named form code c) y) (at ∙ param_found h.parameters n b))
-          (step _ _ 9 size_at_lem refl (λ e.
-          step _ _ 9 size_at_lem (less_most size is) (λ l.
-          via (ap (λ (rs : List Region). granted_of writes rs Parameter p.address p.size st) world.regions)
-          (granted_row Parameter echo from lays writes right p.address p.size same
+          via (ap (λ (y : Option Parameter). parameter_data writes (regions_of sheet (length h.regions)) lay st (named form code c) y) (at ∙ param_found h.parameters n b))
+          (step _ _ OutOfRange size_at_lem refl (λ e.
+          step _ _ OutOfRange size_at_lem (less_most size is) (λ l.
+          via (ap (λ (rs : List Region). granted_of writes rs ByParameter p.address p.size st) world.regions)
+          (granted_row ByParameter echo from lays writes right p.address p.size same
           (let q = eqb-true size p.size e in let r = leb-true size _ l in parameter_room form p.size h.l (pdu_sized pdu h.l world.long good) (omega arith)) x ns vs ks)))))
           (λ b.
-          via (ap (λ (y : SoughtParameter). parameter_data writes (regions_of sheet (length h.regions)) lay st (named form code c) y) (at ∙ param_missing h.parameters n b))
-          (refusing 9 Number _ number_at))
+          via (ap (λ (y : Option Parameter). parameter_data writes (regions_of sheet (length h.regions)) lay st (named form code c) y) (at ∙ param_missing h.parameters n b))
+          (refusing OutOfRange Number _ number_at))
 
       -- 03 ID_RD
       pub item_row : (size most : ℕ) → (named form code c).count ≡ size → most ≡ h.l - 8 → (echo : Piece) (from : ℕ)
@@ -229,35 +231,35 @@ module _ (pdu : PduType) (h : Sheet) (sheet : List ℕ) (st : LinkState) (m c : 
           let size = (ident h s m c).length in
           let w = world.items n in
           found_or _ 9 _ (λ b.
-          via (ap (λ (y : SoughtItem). item_data lay st (named form code c) y) (w.found b))
-          (step _ _ 9 count_at (ap (λ (i : ℕ). eqb i 0) two ∙ none_not k) (λ d.
-          step _ _ 9 count_at (ap (λ (i : ℕ). ltb size (o + i)) two ∙ less_not size (o + k)) (λ e.
-          step _ _ 9 count_at (ap (ltb _) two ∙ less_most k is) (λ f.
-          via (ap (λ (i : ℕ). Accepted (Identifies (w.at + o) i) st) two)
+          via (ap (λ (y : Option Item). item_data lay st (named form code c) y) (w.found b))
+          (step _ _ OutOfRange count_at (ap (λ (i : ℕ). eqb i 0) two ∙ none_not k) (λ d.
+          step _ _ OutOfRange count_at (ap (λ (i : ℕ). ltb size (o + i)) two ∙ less_not size (o + k)) (λ e.
+          step _ _ OutOfRange count_at (ap (ltb _) two ∙ less_most k is) (λ f.
+          via (ap (λ (i : ℕ). accepted (Identifies (w.at + o) i) st) two)
           (doing (Identifies (w.at + o) k) st kept
           (λ i old. lies (w.at + o) k i old ∙ ap (λ (y : List ℕ). laid (echo ∷ piece from y ∷ []) i old) (w.own b o k (leb-true (o + k) size e)))
           (identifies_keep form c m (w.at + o) k ∙ unmoved)))))))
-          (λ b. via (ap (λ (y : SoughtItem). item_data lay st (named form code c) y) (w.missing b)) (refusing 9 Item _ item_at_lem))
+          (λ b. via (ap (λ (y : Option Item). item_data lay st (named form code c) y) (w.missing b)) (refusing OutOfRange ItemField _ item_at_lem))
 
       -- 06 ALM_CLR
       pub clear_row : (mode : ℕ) → (named form code c).alarm_mode ≡ mode
           → J (clear_of st (named form code c)) (checked s (check (eqb mode 0) 9 4 ∷ []) (row x ns vs ks (piece 8 (0 ∷ []) ∷ piece 9 (0 ∷ []) ∷ []) [] []))
       unfolding clear_of checked
-      clear_row mode is = step _ _ 9 alarm_mode_at (ap (λ (n : ℕ). not (eqb n 0)) is) (λ z. quiet (cleared st) _ (goes_cleared sent st facts on))
+      clear_row mode is = step _ _ OutOfRange alarm_mode_at (ap (λ (n : ℕ). not (eqb n 0)) is) (λ z. quiet (cleared st) _ (goes_cleared sent st facts on))
 
       -- 0E CONNECT, as far as both have it
       pub connect_row : (more : List Check) (r : Row)
           → (((named form code c).com_mod ≡ 0) ⊎ (((named form code c).com_mod ≡ 2) ⊎ ((named form code c).com_mod ≡ 6))
-          → J (pick (not (profile_fits lay (named form code c).profile)) (Refused 9 Profile)
-          (Accepted Connects (connected st (pick (eqb ((named form code c).com_mod / 2 % 2) 1) 3 2) ((named form code c).com_mod / 4 % 4) (named form code c).com_time)))
+          → J (pick (not (profile_fits lay (named form code c).profile)) (refusal OutOfRange Profile)
+          (accepted Connects (connected st (pick (eqb ((named form code c).com_mod / 2 % 2) 1) 3 2) ((named form code c).com_mod / 4 % 4) (named form code c).com_time)))
           (checked s more r))
           → J (connect_of lay st (named form code c)) (checked s (connect_checks h s m c more) r)
       unfolding connect_of checked
       connect_row more r last =
           let mode = (named form code c).com_mod in
           let time = (named form code c).com_time in
-          step _ _ 9 version_at refl (λ a.
-          step _ _ 9 com_mod_at (ap not (com_mod_lem mode)) (λ b.
+          step _ _ OutOfRange version_at refl (λ a.
+          step _ _ OutOfRange com_mod_at (ap not (com_mod_lem mode)) (λ b.
           let three = com_mods mode b in
-          step _ _ 9 com_time_at (ap not (com_time_lem mode time three)) (λ d.
+          step _ _ OutOfRange com_time_at (ap not (com_time_lem mode time three)) (λ d.
           last three)))

@@ -8,20 +8,19 @@ use lib.ListN.{length, get_or, drop, length-append, length-drop}
 use lib.Seq.{drop_at, drop-drop}
 use Rattle.octets.proofs.Pick.{pick_ne}
 use Rattle.sheet.specs.Reading.{record_of}
+use Rattle.sheet.specs.Told.{reads, Verdict}
 use Rattle.sheet.specs.Walk.{onward, walk_of}
 use Rattle.sheet.specs.declared.records.Counts.{Counts}
-use Rattle.sheet.specs.declared.records.Reading.TheVariants.{Record}
-use Rattle.sheet.specs.declared.walk.Verdict.{Verdict}
 use Rattle.law.specs.Words.{Every, From, InARow, sum_of, joined}
 
 -- from here on the walk comes to a verdict, at every bound that is enough
 abbrev pub Ends : List ℕ → Verdict → List ℕ → Counts → Type 0
 Ends s v rest so = (f : ℕ) → length rest < f → walk_of f s rest so ≡ v
 
-pub walk_on : (s rest : List ℕ) (so : Counts) (v : Verdict) (n : ℕ) (next : Counts) → record_of s rest so ≡ Record n next → (get_or rest 0 0 ≡ 0 → ⊥)
+pub walk_on : (s rest : List ℕ) (so : Counts) (v : Verdict) (n : ℕ) (next : Counts) → record_of s rest so ≡ reads n next → (get_or rest 0 0 ≡ 0 → ⊥)
     → 1 ≤ n → n ≤ length rest → Ends s v (drop n rest) next → Ends s v rest so
 unfolding walk_of onward
-walk_on s rest so v n next e k l u go zero h = absurd (let w : ⊥ = omega arith in w)
+walk_on s rest so v n next e k l u go zero h = absurd (omega arith)
 walk_on s rest so v n next e k l u go (suc f) h =
     let d = length-drop n rest in
     rw e (pick_ne _ _ k ∙ go f (omega arith))
@@ -31,7 +30,7 @@ module _ (s : List ℕ) (v : Verdict) {A : Type 0} (f : A → List ℕ) (Good : 
     (long : (x : A) → Good x → length (f x) ≡ size)
     (kind : (x : A) (t : List ℕ) → get_or (f x ++ t) 0 0 ≡ 0 → ⊥)
     (read : (x : A) (t : List ℕ) (n m : ℕ) → drop (base + size * n) s ≡ f x ++ t → Good x → bound n m ≤ low x → n < few → m + weight x ≤ much
-    → record_of s (f x ++ t) (so n m) ≡ Record size (so (n + 1) (m + weight x)))
+    → record_of s (f x ++ t) (so n m) ≡ reads size (so (n + 1) (m + weight x)))
     (next : (x : A) (t : List ℕ) (n m : ℕ) → drop (base + size * n) s ≡ f x ++ t → Good x → bound (n + 1) m ≡ high x) where
   abbrev pub Past : ℕ → List A → Type 0
   Past b [] = Unit {0}

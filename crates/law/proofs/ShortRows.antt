@@ -21,10 +21,11 @@ use Rattle.link.specs.declared.state.LinkState.{LinkState}
 use Rattle.link.proofs.Facts.{Facts}
 use Rattle.machine.specs.Codes.{is_known, is_allowed}
 use Rattle.machine.specs.Connecting.{profile_fits, connect_of}
+use Rattle.machine.specs.Judgements.{Judgement}
 use Rattle.machine.specs.Judging.{alarms_of, data_of, judge_of}
+use Rattle.machine.specs.declared.codes.Alarm.TheVariants.{OutOfRange}
 use Rattle.machine.specs.declared.words.Carrier.TheVariants.{Parameter}
 use Rattle.machine.specs.declared.words.Effect.TheVariants.{Identifies, Alarms, Connects}
-use Rattle.machine.specs.declared.words.Judgement.{Judgement}
 use Rattle.sheet.specs.declared.walk.Form.TheVariants.{Short}
 use Rattle.sheet.specs.declared.walk.Layout.{Layout}
 use Rattle.law.specs.Words.{when, one_of, Piece, piece, laid}
@@ -98,7 +99,7 @@ module _ (h : Sheet) (sheet : List ℕ) (st : LinkState) (m c : List ℕ) (facts
     unfolding alarms_of checked
     alarms_row =
         via short h sheet st m c facts on world good asked (wdt_same short (code c) c) (pick_no _ _ (le-ltb h.l 16 (omega arith)))
-        (step short h sheet st m c facts on world good asked (wdt_same short (code c) c) _ _ 9 alarm_mode_at (ap (λ (x : ℕ). not (eqb x 0)) (one_short c _)) (λ z.
+        (step short h sheet st m c facts on world good asked (wdt_same short (code c) c) _ _ OutOfRange alarm_mode_at (ap (λ (x : ℕ). not (eqb x 0)) (one_short c _)) (λ z.
         doing short h sheet st m c facts on world good asked (wdt_same short (code c) c) (Alarms st.latches.command st.latches.communication) st (kept short h sheet st m c facts on world good asked (wdt_same short (code c) c)) alarms_body
         (alarms_keep Short c m st.latches.command st.latches.communication ∙ unmoved short h sheet st m c facts on world good asked (wdt_same short (code c) c))))
 

@@ -65,7 +65,7 @@ unfolding pick
 all_step true c k n e =
     sym e ∙ ⊎_elim (λ (q : k ≡ n). eq-eqb k n q ∙ sym (eq-eqb (suc k) (suc n) (omega arith)))
     (λ (q : k ≡ n → ⊥). ne_eqb k n q ∙ sym (ne_eqb (suc k) (suc n) (λ p. q (omega arith)))) (eq_or_ne k n)
-all_step false c k n e = sym (ne_eqb 0 (suc n) (λ p. let w : ⊥ = omega arith in w))
+all_step false c k n e = sym (ne_eqb 0 (suc n) (λ p. omega arith))
 
 pub all_span : (q : ℕ → Bool) (w : Right) → ((x : ℕ) → q x ≡ gives_of x w) → (rs : List Area) (a n : ℕ) → has_all q (cells rs) a n ≡ span_has (map as_region rs) w a n
 unfolding has_all before_of

@@ -6,15 +6,15 @@ use mathlib.Core.Logic.{inl, inr, ◌↔◌}
 use mathlib.Core.Path.{◌≡◌, refl, sym, ap, ap₂, subst, ◌∙◌}
 use lib.Dec.{ltb}
 use lib.ListN.{length}
+use Rattle.std.specs.Prelude.{Ok, Err}
 use Rattle.octets.specs.Pick.{pick}
 use Rattle.difference.specs.Difference.{Listed, entered_of, difference_of}
 use Rattle.difference.specs.Merge.{merge_of}
 use Rattle.sheet.specs.Faults.{number_of}
+use Rattle.sheet.specs.Told.{Verdict, faulty}
 use Rattle.sheet.specs.Walk.{verdict_of}
 use Rattle.sheet.specs.declared.records.Fault.{Fault}
 use Rattle.sheet.specs.declared.walk.Layout.{Layout}
-use Rattle.sheet.specs.declared.walk.Verdict.{Verdict}
-use Rattle.sheet.specs.declared.walk.Verdict.TheVariants.{Valid, Faulty}
 use Rattle.slave.specs.Answers.{sheet_answer}
 use Rattle.slave.proofs.Order.{on_faulty, on_valid}
 use Rattle.type24.specs.Packed.{PackedList, packed_list}
@@ -54,17 +54,17 @@ unfolding entered_of list_told leaves_list
 entered_told os lent = picked (ltb (length lent) (length os)) _ _
 
 module _ (first second lent : List ℕ) where
-  both_valid : (u v : Layout) → verdict_of first ≡ Valid u → verdict_of second ≡ Valid v
+  both_valid : (u v : Layout) → verdict_of first ≡ Ok u → verdict_of second ≡ Ok v
       → difference_of first second lent ≡ entered_of (merge_of first second) lent
   unfolding difference_of
   both_valid u v p q = on_valid _ u _ _ p ∙ on_valid _ v _ _ q
 
-  first_faulty : (f : Fault) (place : ℕ) → verdict_of first ≡ Faulty f place → leaves_list (difference_of first second lent) ≡ told_of (number_of f) place lent
+  first_faulty : (f : Fault) (place : ℕ) → verdict_of first ≡ faulty f place → leaves_list (difference_of first second lent) ≡ told_of (number_of f) place lent
   unfolding difference_of sheet_answer leaves_list
   first_faulty f place e =
       ap leaves_list (on_faulty _ f place _ _ e) ∙ ap (λ (v : Verdict). told_of (sheet_answer v).number (sheet_answer v).place lent) e
 
-  second_faulty : (u : Layout) (f : Fault) (place : ℕ) → verdict_of first ≡ Valid u → verdict_of second ≡ Faulty f place
+  second_faulty : (u : Layout) (f : Fault) (place : ℕ) → verdict_of first ≡ Ok u → verdict_of second ≡ faulty f place
       → leaves_list (difference_of first second lent) ≡ told_of (number_of f + 10) place lent
   unfolding difference_of sheet_answer leaves_list
   second_faulty u f place p e =
@@ -88,11 +88,11 @@ module _ (first second lent : List ℕ) where
     tells = go (verdict_of first) (verdict_of second) refl refl
       where
         go : (u v : Verdict) → verdict_of first ≡ u → verdict_of second ≡ v → TellsList first second lent (leaves_list (difference_of first second lent))
-        go (Faulty f place) v p q = inr (inl (number_of f, place, fault_told first f place o p, first_faulty f place p))
-        go (Valid u) (Faulty f place) p q =
+        go (Err e) v p q = inr (inl (number_of e.fault, e.place, fault_told first e.fault e.place o p, first_faulty e.fault e.place p))
+        go (Ok u) (Err e) p q =
             let a = sound first u o p in
-            inr (inr (a.0, number_of f, place, a.1, a.2, fault_told second f place n q, second_faulty u f place p q))
-        go (Valid u) (Valid v) p q =
+            inr (inr (a.0, number_of e.fault, e.place, a.1, a.2, fault_told second e.fault e.place n q, second_faulty u e.fault e.place p q))
+        go (Ok u) (Ok v) p q =
             let a = sound first u o p in
             let b = sound second v n q in
             inl (

@@ -62,9 +62,9 @@ module _ (l : ℕ) (five : FiveLengths l) where
 
     range_or_not : ((0x21 ≤ kind) × (kind ≤ 0x25)) ⊎ ((0x21 ≤ kind) × (kind ≤ 0x25) → ⊥)
     range_or_not =
-        ⊎_elim (λ (a : kind < 0x21). inr (λ q. let w : ⊥ = omega (arith, q.0) in w))
+        ⊎_elim (λ (a : kind < 0x21). inr (λ q. omega (arith, q.0)))
         (λ (a : 0x21 ≤ kind).
-        ⊎_elim (λ (b : 0x25 < kind). inr (λ q. let w : ⊥ = omega (arith, q.1) in w)) (λ (b : kind ≤ 0x25). inl (a, b)) (lt_or_le 0x25 kind))
+        ⊎_elim (λ (b : 0x25 < kind). inr (λ q. omega (arith, q.1))) (λ (b : kind ≤ 0x25). inl (a, b)) (lt_or_le 0x25 kind))
         (lt_or_le kind 0x21)
 
     is_known : (0x21 ≤ kind) × (kind ≤ 0x25) → kind_length kind ≡ 0 → ⊥
@@ -89,20 +89,20 @@ module _ (l : ℕ) (five : FiveLengths l) where
         ⊎_elim
         (λ (a : ((0x21 ≤ kind) × (kind ≤ 0x25) → ⊥) × (f ≡ 31)).
         let e = a.1 in
-        (pick_eq _ _ (unknown_kind kind a.0) ∙ sym e, λ z. let w : ⊥ = omega arith in w))
+        (pick_eq _ _ (unknown_kind kind a.0) ∙ sym e, λ z. omega arith))
         (λ a.
         let n₁ = is_known a.0 in
         ⊎_elim
         (λ (b : (kind ≡ kind_for l → ⊥) × (f ≡ 32)).
         let e = b.1 in
-        (pick_ne _ _ n₁ ∙ pick_differ _ _ (λ q. b.0 (is_for a.0 q)) ∙ sym e, λ z. let w : ⊥ = omega arith in w))
+        (pick_ne _ _ n₁ ∙ pick_differ _ _ (λ q. b.0 (is_for a.0 q)) ∙ sym e, λ z. omega arith))
         (λ b.
         ⊎_elim
         (λ (c : (1 + 2 * l ≤ length rest → ⊥) × (f ≡ 33)).
         let e = c.1 in
         let h : length rest < record_size l =
         ⊎_elim (λ (u : length rest < record_size l). u) (λ (u : record_size l ≤ length rest). absurd (c.0 u)) (lt_or_le (length rest) (record_size l)) in
-        (pick_ne _ _ n₁ ∙ pick_same _ _ (for_is b.0) ∙ pick_lt _ _ h ∙ sym e, λ z. let w : ⊥ = omega arith in w))
+        (pick_ne _ _ n₁ ∙ pick_same _ _ (for_is b.0) ∙ pick_lt _ _ h ∙ sym e, λ z. omega arith))
         (λ c. absurd c.1)
         b.1)
         a.1)
@@ -119,7 +119,7 @@ module _ (l : ℕ) (five : FiveLengths l) where
         (λ (e : kind ≡ kind_for l).
         ⊎_elim
         (λ (h : length rest < record_size l).
-        inr (inr (r, inr (e, inl (λ u. let w : ⊥ = omega arith in w, pick_ne _ _ n₁ ∙ pick_same _ _ (for_is e) ∙ pick_lt _ _ h)))))
+        inr (inr (r, inr (e, inl (λ u. omega arith, pick_ne _ _ n₁ ∙ pick_same _ _ (for_is e) ∙ pick_lt _ _ h)))))
         (λ (h : record_size l ≤ length rest). inl (e, h))
         (lt_or_le (length rest) (record_size l)))
         (λ (n : kind ≡ kind_for l → ⊥). inr (inr (r, inl (n, pick_ne _ _ n₁ ∙ pick_differ _ _ (λ q. n (is_for r q))))))

@@ -72,7 +72,7 @@ module _ (l : ℕ) where
         )
 
     exists : (n : ℕ) (trace : List ℕ) → length trace < n → (form : Form) × HasForm l trace form
-    exists zero trace h = absurd (let w : ⊥ = omega arith in w)
+    exists zero trace h = absurd (omega arith)
     exists (suc n) [] h = (whole_records [], (tt, refl))
     exists (suc n) (x ∷ xs) h =
         let trace : List ℕ = x ∷ xs in
@@ -111,14 +111,14 @@ module _ (l : ℕ) where
 
       clean_from : (ts : List Traced) (k n : ℕ) → Every (Whole l) ts → drop (k * record_size l) trace ≡ joined (traced_octets l) ts ++ []
           → length ts < n → form_from l trace k n ≡ told 0 0
-      clean_from ts k zero all e h = absurd (let w : ⊥ = omega arith in w)
+      clean_from ts k zero all e h = absurd (omega arith)
       clean_from [] k (suc n) all e h = form_end l trace k (suc n) (let d = sym (length-drop (k * record_size l) trace) ∙ ap length e in omega arith)
       clean_from (t ∷ ts) k (suc n) all e h =
           goes_on k n t ts [] all.0 e ∙ clean_from ts (suc k) n all.1 (next_record k t ts [] all.0 e) (omega arith)
 
       faulty_from : (ts : List Traced) (rest : List ℕ) (f k n : ℕ) → Every (Whole l) ts → drop (k * record_size l) trace ≡ joined (traced_octets l) ts ++ rest
           → 1 ≤ length rest → TracedFault l rest f → length ts < n → form_from l trace k n ≡ told f ((k + length ts) * record_size l)
-      faulty_from ts rest f k zero all e some bad h = absurd (let w : ⊥ = omega arith in w)
+      faulty_from ts rest f k zero all e some bad h = absurd (omega arith)
       faulty_from [] rest f k (suc n) all e some bad h =
           let d = sym (length-drop (k * record_size l) trace) ∙ ap length e in
           let b = fault_back l five rest f bad in

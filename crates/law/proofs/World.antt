@@ -4,6 +4,7 @@ use mathlib.Core.Path.{◌≡◌, refl}
 use mathlib.Core.List.{List, [], ◌∷◌, map}
 use Prim.Native.Nat.{ℕ, zero, suc, ◌+◌, ◌≤◌}
 use lib.ListN.{length, take, drop}
+use Rattle.std.specs.Prelude.{None, Some}
 use Rattle.octets.specs.Parts.{part, put_at}
 use Rattle.law.specs.Words.{one_of, Piece, piece}
 use Rattle.law.specs.Sheet.{Item as Ident, Sheet, allows}
@@ -14,7 +15,6 @@ use Rattle.regions.specs.Search.{span_place}
 use Rattle.regions.specs.declared.Right.TheVariants.{Mapped}
 use Rattle.sheet.specs.Entries.{parameters_of, items_of, sought_item}
 use Rattle.sheet.specs.declared.entries.Item.{Item}
-use Rattle.sheet.specs.declared.entries.SoughtItem.{SoughtItem}
 use Rattle.law.proofs.Layouts.{as_parameter, as_region}
 
 -- a row of a table and a piece of a body, each by its place
@@ -41,8 +41,8 @@ written true from c a n = piece a (take n (drop from c)) ∷ []
 
 pub record ItemSame (is : List Item) (ids : List Ident) (sheet : List ℕ) (n : ℕ) : Type 0 where
   pub at : ℕ
-  pub found : one_of n (map (λ (i : Ident). i.code) ids) ≡ true → sought_item is n ≡ SoughtItem.Found (record { code = n; length = (ident_of ids n).length; at = at })
-  pub missing : one_of n (map (λ (i : Ident). i.code) ids) ≡ false → sought_item is n ≡ SoughtItem.Missing
+  pub found : one_of n (map (λ (i : Ident). i.code) ids) ≡ true → sought_item is n ≡ Some (record { code = n; length = (ident_of ids n).length; at = at })
+  pub missing : one_of n (map (λ (i : Ident). i.code) ids) ≡ false → sought_item is n ≡ None
   pub own : one_of n (map (λ (i : Ident). i.code) ids) ≡ true → (o k : ℕ) → o + k ≤ (ident_of ids n).length → part sheet (at + o) k ≡ take k (drop o (ident_of ids n).octets)
 
 pub record World (h : Sheet) (sheet m : List ℕ) : Type 0 where

@@ -10,6 +10,8 @@ use native.Mathlib.Omega.{arith}
 use borrow.Author.Tests.{eq-eqb, ne_eqb, eqb-true}
 use lib.Dec.{eqb}
 use lib.ListN.{length}
+use Rattle.std.specs.Prelude.{Ok, Err}
+use Rattle.std.proofs.lemmas.Bool.{and_parts, or_right}
 use Rattle.octets.specs.Pick.{pick}
 use Rattle.octets.proofs.Cases.{eq_or_ne}
 use Rattle.octets.proofs.Pick.{pick_yes, pick_no, pick_ne}
@@ -20,12 +22,12 @@ use Rattle.frame.proofs.Strays.{stray_none, stray_one, bits_enhanced, bits_short
 use Rattle.link.specs.Stored.{octets_of}
 use Rattle.link.specs.declared.state.LinkState.{LinkState}
 use Rattle.link.proofs.Facts.{Facts}
+use Rattle.machine.specs.Judgements.{Judgement, alarm_number, refused as refusal}
 use Rattle.machine.specs.Judging.{strayed}
 use Rattle.machine.specs.Outcomes.{finished}
-use Rattle.machine.specs.declared.words.Field.{Field}
+use Rattle.machine.specs.declared.codes.Alarm.TheVariants.{OutOfRange}
 use Rattle.machine.specs.declared.words.Field.TheVariants.{Stray}
-use Rattle.machine.specs.declared.words.Judgement.{Judgement}
-use Rattle.machine.specs.declared.words.Judgement.TheVariants.{Refused, Accepted}
+use Rattle.machine.specs.declared.words.Refused.{Refused}
 use Rattle.law.specs.Words.{when}
 use Rattle.law.specs.Sheet.{PduType, enhanced, short, Sheet, GoodLength, allows, is_release2}
 use Rattle.law.specs.Table.{Run, Check, check, Row, head_named, is_named, unnamed_bits, stray_from, stray_in}
@@ -61,41 +63,33 @@ abbrev pub alarmed : ℕ → List Check → Bool
 alarmed a [] = true
 alarmed a (k ∷ ks) = eqb k.alarm a && alarmed a ks
 
-both : (a b : Bool) → a && b ≡ true → (a ≡ true) × (b ≡ true)
-both true b e = (refl, e)
-both false b e = absurd (let z : ◌≡◌ {A = ℕ} 0 1 = cc in let v : ⊥ = omega arith in v)
-
-or_true : (b : Bool) → b || true ≡ true
-or_true true = refl
-or_true false = refl
-
 strayed_none : (j : Judgement) → strayed 0 j ≡ j
 unfolding strayed
-strayed_none (Refused alarm field) = pick_yes _ _ refl
-strayed_none (Accepted effect next) = pick_yes _ _ refl
+strayed_none (Err r) = pick_yes _ _ refl
+strayed_none (Ok d) = pick_yes _ _ refl
 
 module _ (u : ℕ) where
-  strayed_nine : (a : ℕ) (field : Field) → a ≡ 9 → strayed u (Refused a field) ≡ Refused a field
+  strayed_nine : (r : Refused) → alarm_number r.alarm ≡ 9 → strayed u (Err r) ≡ Err r
   unfolding strayed
-  strayed_nine a field e = pick_yes _ _ (ap (λ (b : Bool). eqb u 0 || b) (eq-eqb a 9 e) ∙ or_true (eqb u 0))
+  strayed_nine r e = pick_yes _ _ (or_right (eqb u 0) (eqb (alarm_number r.alarm) 9) (eq-eqb (alarm_number r.alarm) 9 e))
 
-  strayed_other : (u ≡ 0 → ⊥) → (a : ℕ) (field : Field) → (a ≡ 9 → ⊥) → strayed u (Refused a field) ≡ Refused 9 (Stray u)
+  strayed_other : (u ≡ 0 → ⊥) → (r : Refused) → (alarm_number r.alarm ≡ 9 → ⊥) → strayed u (Err r) ≡ refusal OutOfRange (Stray u)
   unfolding strayed
-  strayed_other z a field n = pick_no _ _ (ap₂ ◌||◌ (ne_eqb u 0 z) (ne_eqb a 9 n))
+  strayed_other z r n = pick_no _ _ (ap₂ ◌||◌ (ne_eqb u 0 z) (ne_eqb (alarm_number r.alarm) 9 n))
 
 module _ (s : List ℕ) (r : Row) where
   -- one check that is not of alarm 9, and the others
   one_not_nine : (b : Bool) (k : Check) (f : Fate) → k.alarm ≡ 10 → (f.alarm ≡ 9 → ⊥) → (when b f (refused s k.alarm k.place)).alarm ≡ 9 → ⊥
   unfolding when refused
   one_not_nine true k f t g q = g q
-  one_not_nine false k f t g q = let w : ⊥ = omega arith in w
+  one_not_nine false k f t g q = omega arith
 
   -- where only rights are asked, alarm 9 does not come of it
   not_nine : (ks : List Check) → alarmed 10 ks ≡ true → (checked s ks r).alarm ≡ 9 → ⊥
   unfolding checked
-  not_nine [] e q = let w : ⊥ = omega arith in w
+  not_nine [] e q = omega arith
   not_nine (k ∷ ks) e q =
-      let p = both (eqb k.alarm 10) (alarmed 10 ks) e in
+      let p = and_parts (eqb k.alarm 10) (alarmed 10 ks) e in
       one_not_nine k.holds k (checked s ks r) (eqb-true k.alarm 10 p.0) (not_nine ks p.1) q
 
 module _ (pdu : PduType) (h : Sheet) (sheet : List ℕ) (st : LinkState) (m c : List ℕ) (facts : Facts h.l (allows h) st) (on : st.link ≡ 0 → ⊥)
@@ -107,25 +101,25 @@ module _ (pdu : PduType) (h : Sheet) (sheet : List ℕ) (st : LinkState) (m c : 
   Here = J pdu h sheet st m c facts on world good asked wdt-is
 
   -- a refusal has the alarm of its fate, and what is accepted has none
-  refused_alarm : (a : ℕ) (field : Field) (f : Fate) → Here (Refused a field) f → a ≡ f.alarm
+  refused_alarm : (r : Refused) (f : Fate) → Here (Err r) f → alarm_number r.alarm ≡ f.alarm
   unfolding finished
-  refused_alarm a field f g = g.same.alarm
+  refused_alarm r f g = g.same.alarm
 
-  accepted_alarm : (j : Judgement) (f : Fate) → Here j f → f.alarm ≡ 9 → (a : ℕ) × (field : Field) × (j ≡ Refused a field) × (a ≡ 9)
+  accepted_alarm : (j : Judgement) (f : Fate) → Here j f → f.alarm ≡ 9 → (r : Refused) × (j ≡ Err r) × (alarm_number r.alarm ≡ 9)
   unfolding finished
-  accepted_alarm (Refused a field) f g e = (a, field, refl, g.same.alarm ∙ e)
-  accepted_alarm (Accepted effect next) f g e = absurd (let q : 0 ≡ f.alarm = g.same.alarm in let w : ⊥ = omega arith in w)
+  accepted_alarm (Err r) f g e = (r, refl, g.same.alarm ∙ e)
+  accepted_alarm (Ok d) f g e = absurd (let q : 0 ≡ f.alarm = g.same.alarm in omega arith)
 
   stands : (u place : ℕ) (j : Judgement) → Here j (refused s 9 place) → Here (strayed u j) (refused s 9 place)
   unfolding refused
   stands u place j g =
       let q = accepted_alarm j _ g refl in
-      via pdu h sheet st m c facts on world good asked wdt-is (ap (strayed u) q.2 ∙ strayed_nine u q.0 q.1 q.3 ∙ sym q.2) g
+      via pdu h sheet st m c facts on world good asked wdt-is (ap (strayed u) q.1 ∙ strayed_nine u q.0 q.2 ∙ sym q.1) g
 
-  other : (u : ℕ) → (u ≡ 0 → ⊥) → (j : Judgement) (f : Fate) → Here j f → (f.alarm ≡ 9 → ⊥) → strayed u j ≡ Refused 9 (Stray u)
+  other : (u : ℕ) → (u ≡ 0 → ⊥) → (j : Judgement) (f : Fate) → Here j f → (f.alarm ≡ 9 → ⊥) → strayed u j ≡ refusal OutOfRange (Stray u)
   unfolding strayed
-  other u z (Refused a field) f g n = strayed_other u z a field (λ e. n (sym (refused_alarm a field f g) ∙ e))
-  other u z (Accepted effect next) f g n = pick_ne _ _ z
+  other u z (Err r) f g n = strayed_other u z r (λ e. n (sym (refused_alarm r f g) ∙ e))
+  other u z (Ok d) f g n = pick_ne _ _ z
 
   module _ (u : ℕ) (rights : List Check) (r : Row) (ten : alarmed 10 rights ≡ true) where
     asked_there : (j : Judgement) → Here j (checked s rights r) → Here (strayed u j) (checked s (check (eqb u 0) 9 u ∷ rights) r)
@@ -143,8 +137,8 @@ module _ (pdu : PduType) (h : Sheet) (sheet : List ℕ) (st : LinkState) (m c : 
         yes : Here j (checked s rights r) → Here j (when true (checked s rights r) (refused s 9 u))
         yes k = k
 
-        no : Here (Refused 9 (Stray u)) (when false (checked s rights r) (refused s 9 u))
-        no = refusing pdu h sheet st m c facts on world good asked wdt-is 9 (Stray u) u (stray_at u)
+        no : Here (refusal OutOfRange (Stray u)) (when false (checked s rights r) (refused s 9 u))
+        no = refusing pdu h sheet st m c facts on world good asked wdt-is OutOfRange (Stray u) u (stray_at u)
 
     -- one check of data
     one_more : (b : Bool) (k : Check) (j : Judgement) {f g : Fate} → k.alarm ≡ 9 → (Here j f → Here (strayed u j) g)
@@ -160,5 +154,5 @@ module _ (pdu : PduType) (h : Sheet) (sheet : List ℕ) (st : LinkState) (m c : 
     unfolding checked
     between [] j e g = asked_there j g
     between (k ∷ own) j e g =
-        let p = both (eqb k.alarm 9) (alarmed 9 own) e in
+        let p = and_parts (eqb k.alarm 9) (alarmed 9 own) e in
         one_more k.holds k j (eqb-true k.alarm 9 p.0) (between own j p.1) g

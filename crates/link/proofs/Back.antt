@@ -5,6 +5,8 @@
 --     old_valid     so is one that was read from an old record, whose count is 0
 --     written       over eleven octets, writing a state leaves its record
 use mathlib.Core.Bool.{not}
+use Rattle.std.specs.Prelude.{None, Some}
+use Rattle.std.proofs.Common.{rules}
 use mathlib.Core.Path.{◌≡◌, refl, ap, subst, ◌∙◌}
 use mathlib.Core.List.{List}
 use Prim.Native.Nat.{ℕ}
@@ -15,13 +17,12 @@ use Rattle.octets.proofs.Pick.{pick_no, passed}
 use Rattle.link.specs.Stored.{octets_of, fields_of, state_of, stored}
 use Rattle.link.specs.Old.{old_state_of}
 use Rattle.link.specs.declared.state.LinkState.{LinkState}
-use Rattle.link.specs.declared.stored.Stored.TheVariants.{State, Invalid}
 use Rattle.link.proofs.Facts.{Facts, valid_facts, facts_valid}
 
-no_state : {st : LinkState} → Invalid ≡ State st → ⊥
+no_state : {st : LinkState} → None ≡ Some st → ⊥
 no_state e = let z : ◌≡◌ {A = ℕ} 0 1 = cc in omega arith
 
-same_state : {a b : LinkState} → State a ≡ State b → a ≡ b
+same_state : {a b : LinkState} → Some a ≡ Some b → a ≡ b
 same_state e = cc
 
 pub fields_back : (st : LinkState) → fields_of (octets_of st) ≡ st
@@ -32,7 +33,7 @@ pub record_length_lem : (st : LinkState) → length (octets_of st) ≡ 11
 unfolding octets_of
 record_length_lem st = refl
 
-pub read_back : (st : LinkState) (l t : ℕ) → Facts l t st → state_of (octets_of st) l t ≡ State st
+pub read_back : (st : LinkState) (l t : ℕ) → Facts l t st → state_of (octets_of st) l t ≡ Some st
 unfolding state_of octets_of fields_of
 read_back st l t v = pick_no _ _ refl ∙ pick_no _ _ refl ∙ pick_no _ _ (ap not (facts_valid st l t v))
 
@@ -40,7 +41,7 @@ pub written : (s : List ℕ) (st : LinkState) → length s ≡ 11 → stored s s
 unfolding stored
 written s st e = pick_no _ _ (ap not (eq-eqb (length s) 11 e))
 
-pub read_fields : (s : List ℕ) (l t : ℕ) (st : LinkState) → state_of s l t ≡ State st → fields_of s ≡ st
+pub read_fields : (s : List ℕ) (l t : ℕ) (st : LinkState) → state_of s l t ≡ Some st → fields_of s ≡ st
 unfolding state_of
 read_fields s l t st e =
     let p₁ = passed _ no_state e in
@@ -49,7 +50,7 @@ read_fields s l t st e =
     same_state p₃.1
 
 -- a state that was read is valid, and its record has eleven octets
-pub read_valid : (s : List ℕ) (l t : ℕ) (st : LinkState) → state_of s l t ≡ State st → (length s ≡ 11) × Facts l t st
+pub read_valid : (s : List ℕ) (l t : ℕ) (st : LinkState) → state_of s l t ≡ Some st → (length s ≡ 11) × Facts l t st
 unfolding state_of
 read_valid s l t st e =
     let p₁ = passed _ no_state e in
@@ -60,27 +61,10 @@ read_valid s l t st e =
 
 -- where no failure is tolerated none is counted, and so any number may be
 pub any_sheet : (st : LinkState) (l t : ℕ) → Facts l 0 st → Facts l t st
-any_sheet st l t v = record {
-  length = v.length;
-  few = omega (arith, v.few);
-  link = v.link;
-  dual = v.dual;
-  known = v.known;
-  last = v.last;
-  rsn = v.rsn;
-  command = v.command;
-  communication = v.communication;
-  timed = v.timed;
-  untimed = v.untimed;
-  single = v.single;
-  doubled = v.doubled;
-  unwatched = v.unwatched;
-  unknown = v.unknown;
-  silent = v.silent;
-}
+any_sheet st l t v = search rules
 
 -- a state that was read from an old record is valid whatever the sheet tolerates
-pub old_valid : (s : List ℕ) (l t : ℕ) (st : LinkState) → old_state_of s l ≡ State st → (length s ≡ 10) × Facts l t st
+pub old_valid : (s : List ℕ) (l t : ℕ) (st : LinkState) → old_state_of s l ≡ Some st → (length s ≡ 10) × Facts l t st
 unfolding old_state_of
 old_valid s l t st e =
     let p₁ = passed _ no_state e in

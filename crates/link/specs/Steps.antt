@@ -91,6 +91,10 @@ cleared st = record {
   latches = record { command = 0; communication = 0 };
 }
 
+-- behind an exchange that stays in link 3: "stores MN as known and adds 1 to RSN modulo 16", with so many failures in a row
+abbrev pub advanced : Watch → ℕ → ℕ → Watch
+advanced w mn failures = record { known = 1; last = mn; rsn = (w.rsn + 1) % 16; failures = failures }
+
 -- "stores MN as known and adds 1 to RSN modulo 16"; request 9: "An exchange that passes check 1 sets the count to 0"
 abbrev pub counted : LinkState → ℕ → LinkState
 counted st mn = record {
@@ -98,7 +102,7 @@ counted st mn = record {
   l = st.l;
   dual = st.dual;
   com_time = st.com_time;
-  watch = record { known = 1; last = mn; rsn = (st.watch.rsn + 1) % 16; failures = 0 };
+  watch = advanced st.watch mn 0;
   latches = st.latches;
 }
 
@@ -109,6 +113,6 @@ tolerated st mn = record {
   l = st.l;
   dual = st.dual;
   com_time = st.com_time;
-  watch = record { known = 1; last = mn; rsn = (st.watch.rsn + 1) % 16; failures = (st.watch.failures + 1) % 256 };
+  watch = advanced st.watch mn ((st.watch.failures + 1) % 256);
   latches = st.latches;
 }

@@ -1,11 +1,9 @@
 -- The state record. Document 01, "The state record": "kind ..; link ..; L; dual transfer ..; com_time; MN known ..; last MN ..; RSN ..; latched command
 -- alarm ..; latched communication alarm"; request 9: "kind 12 hex with the count as eleventh octet".
-use Rattle.std.specs.Prelude.{ℕ, not, List, [], ◌∷◌, eqb, length, get_or}
+use Rattle.std.specs.Prelude.{ℕ, not, List, [], ◌∷◌, eqb, length, get_or, None, Option, Some}
 use Rattle.octets.specs.Pick.{pick}
 use Rattle.link.specs.Valid.{valid_of}
 use Rattle.link.specs.declared.state.LinkState.{LinkState}
-use Rattle.link.specs.declared.stored.Stored.{Stored}
-use Rattle.link.specs.declared.stored.Stored.TheVariants.{State, Invalid}
 
 -- the record of a state
 unfoldable pub octets_of : LinkState → List ℕ
@@ -24,13 +22,16 @@ fields_of s = record {
   latches = record { command = get_or s 8 0; communication = get_or s 9 0 };
 }
 
--- the state that a record holds beside a sheet with this L that tolerates so many failures in a row
-unfoldable pub state_of : List ℕ → ℕ → ℕ → Stored
-state_of s l tolerance =
-    pick (not (eqb (length s) 11)) Invalid
-    (pick (not (eqb (get_or s 0 0) 0x12)) Invalid
-    (pick (not (valid_of (fields_of s) l tolerance)) Invalid
-    (State (fields_of s))))
+-- the state that a record of this length and kind holds beside a sheet with this L that tolerates so many failures in a row
+abbrev pub recorded_of : List ℕ → ℕ → ℕ → ℕ → ℕ → Option LinkState
+recorded_of s n kind l tolerance =
+    pick (not (eqb (length s) n)) None
+    (pick (not (eqb (get_or s 0 0) kind)) None
+    (pick (not (valid_of (fields_of s) l tolerance)) None
+    (Some (fields_of s))))
+
+unfoldable pub state_of : List ℕ → ℕ → ℕ → Option LinkState
+state_of s l tolerance = recorded_of s 11 0x12 l tolerance
 
 -- eleven lent octets after a state was written; octets of any other length stay
 unfoldable pub stored : List ℕ → LinkState → List ℕ

@@ -1,7 +1,8 @@
 // The link state and its steps. Each step takes the state by value and hands it back.
 ghost use Rattle.std.specs.Prelude.{◌≡◌};
-ghost use Rattle.link.specs.Steps.{idle, follows_of, fresh, enabled, connected, synced, dropped, lost, latched, cleared, counted, tolerated};
+ghost use Rattle.link.specs.Steps.{idle, follows_of, advanced, fresh, enabled, connected, synced, dropped, lost, latched, cleared, counted, tolerated};
 
+// Links and flags are numbers and no enums or bools: the public `fields` (stored.rt) hands out what any record holds, valid or not.
 pub const DISABLED: u8 = 0;
 
 pub const DISCONNECTED: u8 = 1;
@@ -13,6 +14,7 @@ pub const SYNC_CONNECTED: u8 = 3;
 // The watchdog's fields: whether MN is known, the last MN, RSN, and how many exchanges in a row failed it.
 #[derive(Clone, Copy)]
 pub struct Watch {
+    // 0 or 1 where the state is valid, and a number as the links are.
     pub known: u8,
     pub last: u8,
     pub rsn: u8,
@@ -30,6 +32,7 @@ pub struct Latches {
 pub struct LinkState {
     pub link: u8,
     pub l: u8,
+    // 0 or 1 where the state is valid, and a number as the links are.
     pub dual: u8,
     pub com_time: u8,
     pub watch: Watch,
@@ -50,11 +53,24 @@ impl Watch {
     }
 
     // Whether the command's WDT octet follows, where MN is known: its low half is the last MN plus 1, its high half RSN, which the master has from our reply.
+    #[tactic(auto, unfolding(crate::specs::Steps::follows_of))]
     pub fn follows(self, wdt: u8) -> bool
         ensures { result ≡ follows_of self wdt }
     {
         (self.known == 0)
             | ((wdt as u16 % 16 == (self.last as u16 + 1) % 16) & (wdt / 16 == self.rsn))
+    }
+
+    // Behind an exchange in SyncConnected: its MN is the last one, RSN advances modulo 16, and so many failures in a row are counted.
+    fn advanced(self, mn: u8, failures: u8) -> Watch
+        ensures { result ≡ advanced self mn failures }
+    {
+        Watch {
+            known: 1,
+            last: mn,
+            rsn: self.rsn.wrapping_add(1) % 16,
+            failures,
+        }
     }
 }
 
@@ -68,12 +84,7 @@ impl LinkState {
             l,
             dual: 0,
             com_time: 0,
-            watch: Watch {
-                known: 0,
-                last: 0,
-                rsn: 0,
-                failures: 0,
-            },
+            watch: Watch::idle(),
             latches: Latches {
                 command: 0,
                 communication: 0,
@@ -81,58 +92,67 @@ impl LinkState {
         }
     }
 
-    pub fn enabled(mut self) -> LinkState
+    pub fn enabled(self) -> LinkState
         ensures { result ≡ enabled self }
     {
-        self.link = DISCONNECTED;
-        self
+        LinkState {
+            link: DISCONNECTED,
+            ..self
+        }
     }
 
     // CONNECT: com_time and dual are set, and the link is the asked one; MN is not known there.
-    pub fn connected(mut self, link: u8, dual: u8, com_time: u8) -> LinkState
+    pub fn connected(self, link: u8, dual: u8, com_time: u8) -> LinkState
         ensures { result ≡ connected self link dual com_time }
     {
-        self.link = link;
-        self.dual = dual;
-        self.com_time = com_time;
-        let w = Watch::idle();
-        self.watch = w;
-        self
+        LinkState {
+            link,
+            dual,
+            com_time,
+            watch: Watch::idle(),
+            ..self
+        }
     }
 
     // SYNC_SET: SyncConnected, single transfer.
-    pub fn synced(mut self) -> LinkState
+    pub fn synced(self) -> LinkState
         ensures { result ≡ synced self }
     {
-        self.link = SYNC_CONNECTED;
-        self.dual = 0;
-        let w = Watch::idle();
-        self.watch = w;
-        self
+        LinkState {
+            link: SYNC_CONNECTED,
+            dual: 0,
+            watch: Watch::idle(),
+            ..self
+        }
     }
 
     // DISCONNECT: Disconnected, com_time 0; the latches are kept.
-    pub fn dropped(mut self) -> LinkState
+    pub fn dropped(self) -> LinkState
         ensures { result ≡ dropped self }
     {
-        self.link = DISCONNECTED;
-        self.dual = 0;
-        self.com_time = 0;
-        let w = Watch::idle();
-        self.watch = w;
-        self
+        LinkState {
+            link: DISCONNECTED,
+            dual: 0,
+            com_time: 0,
+            watch: Watch::idle(),
+            ..self
+        }
     }
 
     // A failed watchdog: the communication latch becomes 12, and the link AsyncConnected.
-    pub fn lost(mut self) -> LinkState
+    pub fn lost(self) -> LinkState
         ensures { result ≡ lost self }
     {
-        self.link = ASYNC_CONNECTED;
-        self.dual = 0;
-        let w = Watch::idle();
-        self.watch = w;
-        self.latches.communication = 12;
-        self
+        LinkState {
+            link: ASYNC_CONNECTED,
+            dual: 0,
+            watch: Watch::idle(),
+            latches: Latches {
+                communication: 12,
+                ..self.latches
+            },
+            ..self
+        }
     }
 
     // A refused command: its alarm is latched where no alarm is.
@@ -146,42 +166,35 @@ impl LinkState {
     }
 
     // ALM_CLR: both latches 0.
-    pub fn cleared(mut self) -> LinkState
+    pub fn cleared(self) -> LinkState
         ensures { result ≡ cleared self }
     {
-        self.latches.command = 0;
-        self.latches.communication = 0;
-        self
+        LinkState {
+            latches: Latches {
+                command: 0,
+                communication: 0,
+            },
+            ..self
+        }
     }
 
     // An exchange that begins and ends in SyncConnected: MN is known, RSN advances modulo 16, and no failure is counted any more.
-    pub fn counted(mut self, mn: u8) -> LinkState
+    pub fn counted(self, mn: u8) -> LinkState
         ensures { result ≡ counted self mn }
     {
-        let rsn = self.watch.rsn;
-        let w = Watch {
-            known: 1,
-            last: mn,
-            rsn: ((rsn as u16 + 1) % 16) as u8,
-            failures: 0,
-        };
-        self.watch = w;
-        self
+        LinkState {
+            watch: self.watch.advanced(mn, 0),
+            ..self
+        }
     }
 
     // A failed watchdog that the sheet tolerates: counts go on as in step, and one failure more is counted.
-    pub fn tolerated(mut self, mn: u8) -> LinkState
+    pub fn tolerated(self, mn: u8) -> LinkState
         ensures { result ≡ tolerated self mn }
     {
-        let rsn = self.watch.rsn;
-        let failures = self.watch.failures;
-        let w = Watch {
-            known: 1,
-            last: mn,
-            rsn: ((rsn as u16 + 1) % 16) as u8,
-            failures: ((failures as u16 + 1) % 256) as u8,
-        };
-        self.watch = w;
-        self
+        LinkState {
+            watch: self.watch.advanced(mn, self.watch.failures.wrapping_add(1)),
+            ..self
+        }
     }
 }

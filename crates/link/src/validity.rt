@@ -4,12 +4,15 @@ ghost use Rattle.link.specs.Valid.{is_command_alarm, is_communication_alarm, in_
 
 use crate::state::LinkState;
 
+#[tactic(auto, unfolding(crate::specs::Valid::is_command_alarm))]
+// Which numbers may be latched: a set like `is_length` of sheet, but another, and one function that is told the set would be no plainer.
 pub fn is_command_alarm(a: u8) -> bool
     ensures { result ≡ is_command_alarm a }
 {
     (a == 0) | (a == 8) | (a == 9) | (a == 10) | (a == 12)
 }
 
+#[tactic(auto, unfolding(crate::specs::Valid::is_communication_alarm))]
 pub fn is_communication_alarm(a: u8) -> bool
     ensures { result ≡ is_communication_alarm a }
 {
@@ -17,6 +20,7 @@ pub fn is_communication_alarm(a: u8) -> bool
 }
 
 // Each field in its own range.
+#[tactic(auto, unfolding(crate::specs::Valid::in_range))]
 pub fn in_range(st: LinkState) -> bool
     ensures { result ≡ in_range st }
 {
@@ -48,6 +52,7 @@ pub fn agree(st: LinkState) -> bool
 }
 
 // A state that is valid beside a sheet with this L that tolerates so many failures in a row.
+#[tactic(auto, unfolding(crate::specs::Valid::valid_of))]
 pub fn valid(st: LinkState, l: u8, tolerance: u8) -> bool
     ensures { result ≡ valid_of st l tolerance }
 {

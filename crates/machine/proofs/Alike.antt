@@ -1,4 +1,5 @@
 -- What comes of a command does not hang on its identity.
+use Rattle.std.specs.Prelude.{Option, Some, None, Ok, Err}
 use mathlib.Core.Bool.{Bool, true, false, not, ◌&&◌}
 use mathlib.Core.Path.{◌≡◌, refl, ap, ◌∙◌}
 use mathlib.Core.List.{List}
@@ -8,8 +9,6 @@ use Rattle.octets.specs.Pick.{pick}
 use Rattle.link.specs.Steps.{follows_of}
 use Rattle.link.specs.declared.state.LinkState.{LinkState}
 use Rattle.regions.specs.declared.Region.{Region}
-use Rattle.sheet.specs.declared.entries.SoughtItem.{SoughtItem}
-use Rattle.sheet.specs.declared.entries.SoughtParameter.{SoughtParameter}
 use Rattle.sheet.specs.declared.walk.Layout.{Layout}
 use Rattle.machine.specs.Connecting.{connect_of}
 use Rattle.machine.specs.Judging.{parameter_data, parameter_of, item_data, item_of, alarms_of, clear_of, memory_of, data_of, judge_of}
@@ -17,8 +16,9 @@ use Rattle.machine.specs.Outcomes.{comes_to, mn_of, finished, missed_of, outcome
 use Rattle.machine.specs.declared.words.Command.{Command}
 use Rattle.machine.specs.declared.words.Effect.TheVariants.{Quiet}
 use Rattle.machine.specs.declared.words.Field.TheVariants.{Whole}
-use Rattle.machine.specs.declared.words.Judgement.{Judgement}
-use Rattle.machine.specs.declared.words.Judgement.TheVariants.{Refused, Accepted}
+use Rattle.sheet.specs.declared.entries.Parameter.{Parameter}
+use Rattle.sheet.specs.declared.entries.Item.{Item}
+use Rattle.machine.specs.Judgements.{Judgement}
 
 -- a command with another identity
 abbrev pub identified : Command → ℕ → Command
@@ -41,20 +41,20 @@ identified c identity = record {
 }
 
 module _ (s : List ℕ) (lay : Layout) (st : LinkState) (c : Command) (i : ℕ) where
-  parameter_alike : (writes : Bool) (rs : List Region) (x : SoughtParameter) → parameter_data writes rs lay st c x ≡ parameter_data writes rs lay st (identified c i) x
+  parameter_alike : (writes : Bool) (rs : List Region) (x : Option Parameter) → parameter_data writes rs lay st c x ≡ parameter_data writes rs lay st (identified c i) x
   unfolding parameter_data
-  parameter_alike writes rs SoughtParameter.Missing = refl
-  parameter_alike writes rs (SoughtParameter.Found p) = refl
+  parameter_alike writes rs None = refl
+  parameter_alike writes rs (Some p) = refl
 
-  item_alike : (x : SoughtItem) → item_data lay st c x ≡ item_data lay st (identified c i) x
+  item_alike : (x : Option Item) → item_data lay st c x ≡ item_data lay st (identified c i) x
   unfolding item_data
-  item_alike SoughtItem.Missing = refl
-  item_alike (SoughtItem.Found x) = refl
+  item_alike None = refl
+  item_alike (Some x) = refl
 
   finished_alike : (j : Judgement) → finished st c j ≡ finished st (identified c i) j
   unfolding finished
-  finished_alike (Refused alarm field) = refl
-  finished_alike (Accepted effect next) = refl
+  finished_alike (Err r) = refl
+  finished_alike (Ok d) = refl
 
   prm : (writes : Bool) → parameter_of writes s lay st c ≡ parameter_of writes s lay st (identified c i)
   unfolding parameter_of

@@ -1,3 +1,4 @@
 -- The laws of the machine.
+pub mod Picks
 pub mod Nexts
 pub mod Alike

@@ -9,8 +9,8 @@ use Rattle.machine.specs.Codes.{is_full}
 use Rattle.machine.specs.declared.words.Command.{Command}
 use Rattle.machine.specs.declared.words.Effect.TheVariants.{Connects}
 use Rattle.machine.specs.declared.words.Field.TheVariants.{Version, ComMod, ComTime, Profile}
-use Rattle.machine.specs.declared.words.Judgement.{Judgement}
-use Rattle.machine.specs.declared.words.Judgement.TheVariants.{Refused, Accepted}
+use Rattle.machine.specs.Judgements.{Judgement, accepted, refused}
+use Rattle.machine.specs.declared.codes.Alarm.TheVariants.{OutOfRange}
 
 -- bit 1
 abbrev pub synchronous : ℕ → ℕ
@@ -35,9 +35,9 @@ profile_fits lay profile = not (is_full lay.form) || eqb profile lay.profile
 -- "4 version of the sheet; 5 com_mod; 6 com_time ..; 7 profile of the sheet": "com_time and dual set; link 3 if bit 1 of com_mod, else 2"
 unfoldable pub connect_of : Layout → LinkState → Command → Judgement
 connect_of lay st c =
-    pick (not (eqb c.version lay.version)) (Refused 9 Version)
-    (pick (not (com_mod_fits c.com_mod)) (Refused 9 ComMod)
-    (pick (not (com_time_fits c.com_mod c.com_time)) (Refused 9 ComTime)
-    (pick (not (profile_fits lay c.profile)) (Refused 9 Profile)
-    (Accepted Connects
+    pick (not (eqb c.version lay.version)) (refused OutOfRange Version)
+    (pick (not (com_mod_fits c.com_mod)) (refused OutOfRange ComMod)
+    (pick (not (com_time_fits c.com_mod c.com_time)) (refused OutOfRange ComTime)
+    (pick (not (profile_fits lay c.profile)) (refused OutOfRange Profile)
+    (accepted Connects
     (connected st (pick (eqb (synchronous c.com_mod) 1) 3 2) (transfer c.com_mod) c.com_time)))))

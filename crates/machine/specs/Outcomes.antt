@@ -1,5 +1,5 @@
 -- One exchange around checks 2 to 5: check 1, the latches and the watchdog.
-use Rattle.std.specs.Prelude.{ℕ, ◌%◌, not, ◌&&◌, List, eqb, ltb}
+use Rattle.std.specs.Prelude.{ℕ, ◌%◌, not, ◌&&◌, List, eqb, ltb, Ok, Err}
 use Rattle.octets.specs.Pick.{pick}
 use Rattle.link.specs.Steps.{follows_of, lost, latched, counted, tolerated}
 use Rattle.link.specs.declared.state.LinkState.{LinkState}
@@ -10,9 +10,8 @@ use Rattle.machine.specs.declared.words.Effect.{Effect}
 use Rattle.machine.specs.declared.words.Effect.TheVariants.{Quiet}
 use Rattle.machine.specs.declared.words.Field.{Field}
 use Rattle.machine.specs.declared.words.Field.TheVariants.{Whole}
-use Rattle.machine.specs.declared.words.Judgement.{Judgement}
-use Rattle.machine.specs.declared.words.Judgement.TheVariants.{Refused, Accepted}
 use Rattle.machine.specs.declared.words.Outcome.{Outcome}
+use Rattle.machine.specs.Judgements.{Judgement, alarm_number}
 
 abbrev pub comes_to : ℕ → Field → Effect → LinkState → Outcome
 comes_to alarm field effect next = record { alarm = alarm; field = field; effect = effect; next = next }
@@ -27,8 +26,8 @@ counting before st mn = pick (eqb before.link 3 && eqb st.link 3) (counted st mn
 
 -- a refused command latches its alarm and does nothing; an accepted one has alarm 0, and no field is at fault
 unfoldable pub finished : LinkState → Command → Judgement → Outcome
-finished st c (Refused alarm field) = comes_to alarm field Quiet (counting st (latched st alarm) (mn_of c))
-finished st c (Accepted effect next) = comes_to 0 Whole effect (counting st next (mn_of c))
+finished st c (Err r) = comes_to (alarm_number r.alarm) r.field Quiet (counting st (latched st (alarm_number r.alarm)) (mn_of c))
+finished st c (Ok d) = comes_to 0 Whole d.effect (counting st d.next (mn_of c))
 
 -- the state behind a failed check 1: "the communication latch becomes 12, .. the link becomes 2"; request 9: the sheet "allows that many failures in a
 -- row", and within it "link and latches stay"

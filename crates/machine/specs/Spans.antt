@@ -10,8 +10,8 @@ use Rattle.machine.specs.declared.words.Carrier.{Carrier}
 use Rattle.machine.specs.declared.words.Effect.{Effect}
 use Rattle.machine.specs.declared.words.Effect.TheVariants.{Reads, Writes}
 use Rattle.machine.specs.declared.words.Field.TheVariants.{Address, Span}
-use Rattle.machine.specs.declared.words.Judgement.{Judgement}
-use Rattle.machine.specs.declared.words.Judgement.TheVariants.{Refused, Accepted}
+use Rattle.machine.specs.Judgements.{Judgement, accepted, refused}
+use Rattle.machine.specs.declared.codes.Alarm.TheVariants.{NoRight, OutOfRange}
 
 -- the right that a read or a write asks: a write bit 1 in AsyncConnected and bit 2 in SyncConnected, by the link before the exchange
 unfoldable pub right_of : Bool → ℕ → Right
@@ -27,9 +27,9 @@ moved true by place n = Writes by place n
 -- first octet that lacks the right
 unfoldable pub granted_of : Bool → List Region → Carrier → ℕ → ℕ → LinkState → Judgement
 granted_of writes rs by a n st =
-    pick (not (span_has rs (right_of writes st.link) a n)) (Refused 10 (Span (before_of rs (right_of writes st.link) a n)))
-    (Accepted (moved writes by (span_place rs a n) n) st)
+    pick (not (span_has rs (right_of writes st.link) a n)) (refused NoRight (Span (before_of rs (right_of writes st.link) a n)))
+    (accepted (moved writes by (span_place rs a n) n) st)
 
 -- and before it check 4, of a memory command's span
 unfoldable pub span_of : Bool → List Region → Carrier → ℕ → ℕ → LinkState → Judgement
-span_of writes rs by a n st = pick (not (span_has rs Mapped a n)) (Refused 9 Address) (granted_of writes rs by a n st)
+span_of writes rs by a n st = pick (not (span_has rs Mapped a n)) (refused OutOfRange Address) (granted_of writes rs by a n st)

@@ -1,38 +1,95 @@
 // The command codes, and which link allows which.
 ghost use Rattle.std.specs.Prelude.{◌≡◌};
-ghost use Rattle.machine.specs.Codes.{is_full, is_known, is_allowed};
+ghost use Rattle.machine.specs.Codes.{NamesCode, is_full, is_known, is_allowed};
+ghost use Rattle.machine.specs.Judgements.{alarm_number};
 
 use sheet::walk::Form;
+use std::fmt;
 
-pub const NOP: u8 = 0;
+// The commands, by the names of document 01.
+#[derive(Clone, Copy, PartialEq, Eq)]
+pub enum Code {
+    Nop,
+    PrmRd,
+    PrmWr,
+    IdRd,
+    AlmRd,
+    AlmClr,
+    SyncSet,
+    Connect,
+    Disconnect,
+    MemRd,
+    MemWr,
+}
 
-pub const PRM_RD: u8 = 1;
+// A code that no command has.
+#[derive(Clone, Copy, PartialEq, Eq)]
+pub struct UnknownCode(pub u8);
 
-pub const PRM_WR: u8 = 2;
+impl TryFrom<u8> for Code {
+    type Error = UnknownCode;
 
-pub const ID_RD: u8 = 3;
+    ghost try_from_gives = { NamesCode };
 
-pub const ALM_RD: u8 = 5;
+    #[tactic(auto, using(std::proofs::lemmas::Bool::Decides::nat_tests), unfolding(crate::specs::Codes::is_known))]
+    fn try_from(number: u8) -> Result<Code, UnknownCode> {
+        match number {
+            0x00 => Ok(Code::Nop),
+            0x01 => Ok(Code::PrmRd),
+            0x02 => Ok(Code::PrmWr),
+            0x03 => Ok(Code::IdRd),
+            0x05 => Ok(Code::AlmRd),
+            0x06 => Ok(Code::AlmClr),
+            0x0D => Ok(Code::SyncSet),
+            0x0E => Ok(Code::Connect),
+            0x0F => Ok(Code::Disconnect),
+            0x1D => Ok(Code::MemRd),
+            0x1E => Ok(Code::MemWr),
+            _ => Err(UnknownCode(number)),
+        }
+    }
+}
 
-pub const ALM_CLR: u8 = 6;
+impl fmt::Display for Code {
+    fn fmt<W: fmt::Write>(&self, f: &mut fmt::Formatter<W>) -> fmt::Result {
+        f.write_str(match self {
+            Code::Nop => "NOP",
+            Code::PrmRd => "PRM_RD",
+            Code::PrmWr => "PRM_WR",
+            Code::IdRd => "ID_RD",
+            Code::AlmRd => "ALM_RD",
+            Code::AlmClr => "ALM_CLR",
+            Code::SyncSet => "SYNC_SET",
+            Code::Connect => "CONNECT",
+            Code::Disconnect => "DISCONNECT",
+            Code::MemRd => "MEM_RD",
+            Code::MemWr => "MEM_WR",
+        })
+    }
+}
 
-pub const SYNC_SET: u8 = 13;
+// The command alarms.
+#[derive(Clone, Copy, PartialEq, Eq)]
+pub enum Alarm {
+    OutOfSupport,
+    OutOfRange,
+    NoRight,
+    WrongPhase,
+}
 
-pub const CONNECT: u8 = 14;
-
-pub const DISCONNECT: u8 = 15;
-
-pub const MEM_RD: u8 = 29;
-
-pub const MEM_WR: u8 = 30;
-
-pub const OUT_OF_SUPPORT: u8 = 8;
-
-pub const OUT_OF_RANGE: u8 = 9;
-
-pub const NO_RIGHT: u8 = 10;
-
-pub const WRONG_PHASE: u8 = 12;
+impl Alarm {
+    // The paper's number of an alarm: a table, as `alarm_number` is, which document 01 asks for.
+    pub fn number(self) -> u8
+        ensures { result ≡ alarm_number self }
+    {
+        match self {
+            Alarm::OutOfSupport => 8,
+            Alarm::OutOfRange => 9,
+            Alarm::NoRight => 10,
+            Alarm::WrongPhase => 12,
+        }
+    }
+}
 
 // Whether a type has the memory commands, and a profile in CONNECT.
 pub fn is_full(form: Form) -> bool
@@ -45,33 +102,26 @@ pub fn is_full(form: Form) -> bool
 }
 
 // Whether a code is one of a type's: eleven, or nine.
+#[tactic(auto, using(std::proofs::lemmas::Bool::Decides::nat_tests), unfolding(crate::specs::Codes::is_known, crate::specs::Codes::is_full))]
 pub fn is_known(form: Form, code: u8) -> bool
     ensures { result ≡ is_known form code }
 {
-    (code == NOP)
-        | (code == PRM_RD)
-        | (code == PRM_WR)
-        | (code == ID_RD)
-        | (code == ALM_RD)
-        | (code == ALM_CLR)
-        | (code == SYNC_SET)
-        | (code == CONNECT)
-        | (code == DISCONNECT)
-        | (is_full(form) & ((code == MEM_RD) | (code == MEM_WR)))
+    match Code::try_from(code) {
+        Ok(Code::MemRd | Code::MemWr) => is_full(form),
+        Ok(_) => true,
+        Err(_) => false,
+    }
 }
 
 // Whether a link allows a known code.
+#[tactic(auto, using(crate::proofs::Picks::picks, std::proofs::lemmas::Bool::Decides::nat_tests), unfolding(crate::specs::Codes::is_known, crate::specs::Codes::is_allowed))]
 pub fn is_allowed(link: u8, code: u8) -> bool
     ensures { result ≡ is_allowed link code }
 {
-    if link == link::state::DISCONNECTED {
-        return (code == NOP) | (code == CONNECT) | (code == DISCONNECT);
+    match Code::try_from(code) {
+        Ok(Code::Nop | Code::Disconnect) => true,
+        Ok(Code::Connect) => link == link::state::DISCONNECTED,
+        Ok(Code::SyncSet) => link == link::state::ASYNC_CONNECTED,
+        _ => link != link::state::DISCONNECTED,
     }
-    if code == CONNECT {
-        return false;
-    }
-    if code == SYNC_SET {
-        return link == link::state::ASYNC_CONNECTED;
-    }
-    true
 }

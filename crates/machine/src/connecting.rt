@@ -1,18 +1,19 @@
-// The data checks of CONNECT.
+// The data checks of CONNECT, which needs no sheet but its layout.
 ghost use Rattle.std.specs.Prelude.{◌≡◌};
 ghost use Rattle.machine.specs.Connecting.{com_mod_fits, com_time_fits, profile_fits, connect_of};
 
-use crate::codes::OUT_OF_RANGE;
-use crate::words::{Command, Effect, Field, Judgement};
+use crate::words::{Command, Done, Effect, Field, Refused};
 use link::state::LinkState;
 use sheet::walk::Layout;
 
+#[tactic(auto, unfolding(crate::specs::Connecting::com_mod_fits))]
 fn com_mod_fits(m: u8) -> bool
     ensures { result ≡ com_mod_fits m }
 {
     (m % 2 == 0) & (m / 16 == 0) & (m / 4 % 4 <= 1) & ((m / 4 % 4 == 0) | (m / 2 % 2 == 1))
 }
 
+#[tactic(auto, unfolding(crate::specs::Connecting::com_time_fits))]
 fn com_time_fits(m: u8, time: u8) -> bool
     ensures { result ≡ com_time_fits m time }
 {
@@ -20,6 +21,7 @@ fn com_time_fits(m: u8, time: u8) -> bool
 }
 
 // A type without a profile has none that is wrong.
+#[tactic(auto, unfolding(crate::specs::Connecting::profile_fits))]
 fn profile_fits(layout: Layout, profile: u8) -> bool
     ensures { result ≡ profile_fits layout profile }
 {
@@ -27,30 +29,30 @@ fn profile_fits(layout: Layout, profile: u8) -> bool
     !crate::codes::is_full(form) | (profile == layout.profile)
 }
 
-pub fn connect(layout: Layout, st: LinkState, c: Command) -> Judgement
+#[tactic(auto, using(crate::proofs::Picks::picks), unfolding(crate::specs::Connecting::connect_of))]
+pub fn connect(layout: Layout, st: LinkState, c: Command) -> Result<Done, Refused>
     ensures { result ≡ connect_of layout st c }
 {
     if c.version != layout.version {
-        return Judgement::Refused(OUT_OF_RANGE, Field::Version);
+        return Err(Refused::out_of_range(Field::Version));
     }
     if !com_mod_fits(c.com_mod) {
-        return Judgement::Refused(OUT_OF_RANGE, Field::ComMod);
+        return Err(Refused::out_of_range(Field::ComMod));
     }
     if !com_time_fits(c.com_mod, c.com_time) {
-        return Judgement::Refused(OUT_OF_RANGE, Field::ComTime);
+        return Err(Refused::out_of_range(Field::ComTime));
     }
     if !profile_fits(layout, c.profile) {
-        return Judgement::Refused(OUT_OF_RANGE, Field::Profile);
+        return Err(Refused::out_of_range(Field::Profile));
     }
     let transfer = c.com_mod / 4 % 4;
-    if c.com_mod / 2 % 2 == 1 {
-        return Judgement::Accepted(
-            Effect::Connects,
-            st.connected(link::state::SYNC_CONNECTED, transfer, c.com_time),
-        );
-    }
-    Judgement::Accepted(
-        Effect::Connects,
-        st.connected(link::state::ASYNC_CONNECTED, transfer, c.com_time),
-    )
+    let link = if c.com_mod / 2 % 2 == 1 {
+        link::state::SYNC_CONNECTED
+    } else {
+        link::state::ASYNC_CONNECTED
+    };
+    Ok(Done {
+        effect: Effect::Connects,
+        next: st.connected(link, transfer, c.com_time),
+    })
 }

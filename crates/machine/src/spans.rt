@@ -1,15 +1,16 @@
 // Checks 4 and 5 over a span of memory. A parameter's span lies in regions, by fault 17, so it has check 5 alone.
 ghost use Rattle.std.specs.Prelude.{◌≡◌};
-ghost use Rattle.regions.specs.Apart.{Laid};
 ghost use Rattle.regions.specs.Region.{regions_of};
 ghost use Rattle.machine.specs.Spans.{right_of, moved, granted_of, span_of};
 
-use crate::codes::{NO_RIGHT, OUT_OF_RANGE};
-use crate::words::{Carrier, Effect, Field, Judgement};
+use crate::codes::Alarm;
+use crate::words::{Carrier, Done, Effect, Field, Refused};
 use link::state::LinkState;
 use regions::Right;
+use regions::search::Regions;
 
 // The right that a read or a write asks in a link.
+#[tactic(auto, using(crate::proofs::Picks::picks), unfolding(crate::specs::Spans::right_of))]
 fn right_of(writes: bool, link: u8) -> Right
     ensures { result ≡ right_of writes link }
 {
@@ -23,6 +24,7 @@ fn right_of(writes: bool, link: u8) -> Right
 }
 
 // The octets at a place, read or written.
+#[tactic(auto, unfolding(crate::specs::Spans::moved))]
 fn moves(writes: bool, by: Carrier, place: u32, size: u8) -> Effect
     ensures { result ≡ moved writes by place size }
 {
@@ -33,44 +35,45 @@ fn moves(writes: bool, by: Carrier, place: u32, size: u8) -> Effect
 }
 
 // A span asked to be read, or to be written, that is known to lie in regions: its right alone is asked.
+#[tactic(auto, using(crate::proofs::Picks::picks), unfolding(crate::specs::Spans::granted_of, regions::specs::Search::reach_of))]
 pub fn granted(
     writes: bool,
-    sheet: &[u8],
-    regions: u8,
+    regions: &Regions,
     by: Carrier,
     address: u32,
     size: u8,
     st: LinkState,
-) -> Judgement
-    requires { Laid sheet.now regions }
-    ensures { result ≡ granted_of writes (regions_of sheet.now regions) by address size st }
+) -> Result<Done, Refused>
+    ensures { result ≡ granted_of writes (regions_of regions.now.sheet.now regions.now.count) by address size st }
 {
-    let reach = regions::search::before(sheet, regions, right_of(writes, st.link), address, size);
+    let reach = regions.before(right_of(writes, st.link), address, size);
     if reach.before == size {
-        return Judgement::Accepted(moves(writes, by, reach.place, size), st);
+        return Ok(Done {
+            effect: moves(writes, by, reach.place, size),
+            next: st,
+        });
     }
-    Judgement::Refused(NO_RIGHT, Field::Span(reach.before))
+    Err(Refused {
+        alarm: Alarm::NoRight,
+        field: Field::Span(reach.before),
+    })
 }
 
 // A span asked to be read, or to be written. What has the right is mapped, so one search of the span accepts it; a second tells why it is refused.
+#[tactic(auto, using(regions::proofs::Spans::span_mapped, crate::proofs::Picks::picks), unfolding(crate::specs::Spans::span_of, crate::specs::Spans::granted_of))]
 pub fn span(
     writes: bool,
-    sheet: &[u8],
-    regions: u8,
+    regions: &Regions,
     by: Carrier,
     address: u32,
     size: u8,
     st: LinkState,
-) -> Judgement
-    requires { Laid sheet.now regions }
-    ensures { result ≡ span_of writes (regions_of sheet.now regions) by address size st }
+) -> Result<Done, Refused>
+    ensures { result ≡ span_of writes (regions_of regions.now.sheet.now regions.now.count) by address size st }
 {
-    let asked = granted(writes, sheet, regions, by, address, size, st);
-    let Judgement::Refused(_, _) = asked else {
-        return asked;
-    };
-    if regions::search::has(sheet, regions, Right::Mapped, address, size) {
+    let asked = granted(writes, regions, by, address, size, st);
+    if asked.is_ok() || regions.has(Right::Mapped, address, size) {
         return asked;
     }
-    Judgement::Refused(OUT_OF_RANGE, Field::Address)
+    Err(Refused::out_of_range(Field::Address))
 }

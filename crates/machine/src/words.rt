@@ -1,4 +1,9 @@
 // A command by value, and what comes of it.
+ghost use Rattle.std.specs.Prelude.{◌≡◌, Err};
+ghost use Rattle.machine.specs.Judgements.{refused};
+ghost use Rattle.machine.specs.declared.codes.Alarm.TheVariants.{OutOfRange};
+
+use crate::codes::Alarm;
 use link::state::LinkState;
 
 // The fields of a command. Each command names the fields it has; `frame` knows at which octets they stand, and gives 0 for one that a type lacks.
@@ -60,14 +65,34 @@ pub enum Field {
     Span(u8),
 }
 
-// What checks 2 to 5 say: an alarm with what it is about, or what is executed with the state that it leaves.
+// What checks 2 to 5 execute, with the state that it leaves.
 #[derive(Clone, Copy)]
-pub enum Judgement {
-    Refused(u8, Field),
-    Accepted(Effect, LinkState),
+pub struct Done {
+    pub effect: Effect,
+    pub next: LinkState,
 }
 
-// What an exchange comes to: this command's alarm and what it is about, what is done, and the next state.
+// What checks 2 to 5 refuse: an alarm with what it is about.
+#[derive(Clone, Copy)]
+pub struct Refused {
+    pub alarm: Alarm,
+    pub field: Field,
+}
+
+impl Refused {
+    // A field out of its range: check 4.
+    pub fn out_of_range(field: Field) -> Refused
+        ensures { Err result ≡ refused OutOfRange field }
+    {
+        Refused {
+            alarm: Alarm::OutOfRange,
+            field,
+        }
+    }
+}
+
+// What an exchange comes to: this command's alarm and what it is about, what is done, and the next state. The alarm is its number, 0 for none, as the reply
+// and the latches have it.
 #[derive(Clone, Copy)]
 pub struct Outcome {
     pub alarm: u8,

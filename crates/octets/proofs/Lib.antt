@@ -2,5 +2,5 @@
 pub mod Pick
 pub mod Cases
 pub mod Numbers
-pub mod Parts
 pub mod Overlaid
+pub mod Parts

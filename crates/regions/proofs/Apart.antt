@@ -35,7 +35,7 @@ module _ (f : ℕ → Region) where
   -- every region starts at or past the end that they are apart from
   starts_past : (k m end : ℕ) → Apart end (listed f k m) → (i : ℕ) → k ≤ i → i < k + m → end ≤ (f i).start
   unfolding listed
-  starts_past k zero end d i l u = absurd (let z : ⊥ = omega arith in z)
+  starts_past k zero end d i l u = absurd (omega arith)
   starts_past k (suc m) end d i l u =
       ⊎_elim
       (λ (e : i ≡ k). rw e d.0)
@@ -46,7 +46,7 @@ module _ (f : ℕ → Region) where
 
   pub apart_rises : (k m end : ℕ) → Apart end (listed f k m) → (j i : ℕ) → k ≤ j → j < i → i < k + m → (f j).start + (f j).length ≤ (f i).start
   unfolding listed
-  apart_rises k zero end d j i l b u = absurd (let z : ⊥ = omega arith in z)
+  apart_rises k zero end d j i l b u = absurd (omega arith)
   apart_rises k (suc m) end d j i l b u =
       ⊎_elim
       (λ (e : j ≡ k). rw e (starts_past (suc k) m ((f k).start + (f k).length) d.2 i (omega arith) (omega arith)))

@@ -5,11 +5,12 @@
 --     kept_out, kept_denied          where no region is left, or one denies the octet, as many octets come before as were passed
 --     kept_ends                      where it comes to the span's end, no octet lacks the right
 --     kept_within                    no more regions are passed than there are
-use mathlib.Core.Bool.{Bool, true, false, not, true≢false}
+use mathlib.Core.Bool.{true, false, true≢false}
 use mathlib.Core.Logic.{⊎_elim}
-use mathlib.Core.Path.{◌≡◌, refl, sym, subst, ◌∙◌}
+use mathlib.Core.Path.{◌≡◌, sym, subst, ◌∙◌}
 use Prim.Native.Nat.{ℕ, ◌+◌, ◌-◌, ◌<◌, ◌≤◌}
 use native.Mathlib.Omega.{arith}
+use borrow.Author.Tests.{not-true, not-false}
 use Rattle.octets.proofs.Cases.{lt_or_le}
 use Rattle.octets.proofs.Pick.{pick_lt, pick_ge, pick_le, pick_gt}
 use Rattle.regions.specs.Apart.{Apart}
@@ -21,14 +22,6 @@ use Rattle.regions.specs.declared.Right.{Right}
 use Rattle.regions.proofs.Bounds.{bounds_hold, past_misses}
 use Rattle.regions.proofs.Passing.{Passing, passing_start, passing_on, passing_jump, passing_lacks, passing_ends, passing_gap}
 use Rattle.regions.proofs.Turns.{grants_here, grants_end}
-
-held : (b : Bool) → not b ≡ false → b ≡ true
-held true e = refl
-held false e = absurd (true≢false e)
-
-failed : (b : Bool) → not b ≡ true → b ≡ false
-failed true e = absurd (true≢false (sym e))
-failed false e = refl
 
 -- what it means that a region denies an octet, or does not
 module _ (r : Region) (w : Right) (a : ℕ) where
@@ -42,7 +35,7 @@ module _ (r : Region) (w : Right) (a : ℕ) where
 
   denied_right : denies_of r w a ≡ true → r.start ≤ a → gives_of r.rights w ≡ false
   unfolding denies_of
-  denied_right t l = failed (gives_of r.rights w) (sym (pick_gt _ _ (denied_behind t) ∙ pick_ge _ _ l) ∙ t)
+  denied_right t l = not-true (gives_of r.rights w) (sym (pick_gt _ _ (denied_behind t) ∙ pick_ge _ _ l) ∙ t)
 
   pub spared_start : denies_of r w a ≡ false → a < r.start + r.length → r.start ≤ a
   unfolding denies_of
@@ -54,7 +47,7 @@ module _ (r : Region) (w : Right) (a : ℕ) where
 
   spared_right : denies_of r w a ≡ false → a < r.start + r.length → gives_of r.rights w ≡ true
   unfolding denies_of
-  spared_right t u = held (gives_of r.rights w) (sym (pick_gt _ _ u ∙ pick_ge _ _ (spared_start t u)) ∙ t)
+  spared_right t u = not-false (gives_of r.rights w) (sym (pick_gt _ _ u ∙ pick_ge _ _ (spared_start t u)) ∙ t)
 
 -- the octets from `a` up to `at`, and on to `end` if that is behind it, have the right; of the next the regions from the i-th on decide
 pub record Kept (f : ℕ → Region) (n : ℕ) (w : Right) (a at end i : ℕ) : Type 0 where
@@ -67,7 +60,7 @@ module _ (f : ℕ → Region) (n : ℕ) (w : Right) (a : ℕ) where
   kept_first = record {
     since = omega arith;
     reached = λ h. passing_start f n w a;
-    beyond = λ h. absurd (let z : ⊥ = omega arith in z);
+    beyond = λ h. absurd (omega arith);
   }
 
   module _ (at end i : ℕ) (k : Kept f n w a at end i) where

@@ -2,13 +2,14 @@
 --     passing_start    it begins before all regions
 --     passing_jump     a region that has the octet and gives the right is passed to its end
 --     passing_on       a region that has the octet not is passed
+--     passing_mapped   a region that has the octet is passed to its end, where any region will do
 --     passing_ends     where it comes to the span's end, no octet lacks the right
 --     passing_lacks    where it stops before, as many octets come before as were passed
 --     passing_gap      no region from one that starts behind the octet on has it
 --     passing_whole, passing_short   whether the span lies wholly in regions: where its end is reached, and where the octet has none
 use mathlib.Core.Bool.{true, false}
 use mathlib.Core.Logic.{⊎_elim}
-use mathlib.Core.Path.{◌≡◌, sym, ap, subst, ◌∙◌}
+use mathlib.Core.Path.{◌≡◌, refl, sym, ap, subst, ◌∙◌}
 use Prim.Native.Nat.{ℕ, ◌+◌, ◌-◌, ◌<◌, ◌≤◌}
 use native.Mathlib.Omega.{arith}
 use borrow.Author.Tests.{le-leb, lt-leb, eq-eqb, ne_eqb}
@@ -19,6 +20,7 @@ use Rattle.regions.specs.Region.{listed, holds_of, gives_of}
 use Rattle.regions.specs.Search.{grants_of, before_of, span_has}
 use Rattle.regions.specs.declared.Region.{Region}
 use Rattle.regions.specs.declared.Right.{Right}
+use Rattle.regions.specs.declared.Right.TheVariants.{Mapped}
 use Rattle.regions.proofs.Apart.{apart_rises, apart_behind}
 use Rattle.regions.proofs.Bounds.{holds_bounds, bounds_hold}
 use Rattle.regions.proofs.Spans.{before_all, before_at}
@@ -36,8 +38,8 @@ module _ (f : ℕ → Region) (n : ℕ) (w : Right) (a : ℕ) where
   passing_start = record {
     from = omega arith;
     within = omega arith;
-    granted = λ x l u. absurd (let z : ⊥ = omega arith in z);
-    decides = grants_from f n 0 (omega arith) w a (λ j l. absurd (let z : ⊥ = omega arith in z));
+    granted = λ x l u. absurd (omega arith);
+    decides = grants_from f n 0 (omega arith) w a (λ j l. absurd (omega arith));
   }
 
   module _ (to i : ℕ) (p : Passing f n w a to i) where
@@ -102,10 +104,14 @@ module _ (f : ℕ → Region) (n : ℕ) (w : Right) (a : ℕ) where
           (λ (h : to < a + size).
           let l = p.from in
           let b = passing_lacks h lacks in
-          lt-leb (a + size) to h ∙ sym (ne_eqb _ size (λ e. let z : ⊥ = omega arith in z)))
+          lt-leb (a + size) to h ∙ sym (ne_eqb _ size (λ e. omega arith)))
           (λ (h : a + size ≤ to). passing_whole h)
           (lt_or_le to (a + size))
 
 module _ (f : ℕ → Region) (n : ℕ) (d : Apart 0 (listed f 0 n)) (a to i : ℕ) (h : i < n) (r : Region) (e : r ≡ f i) where
+  pub passing_mapped : Passing f n Mapped a to i → (end : ℕ) → end ≡ r.start + r.length → r.start ≤ to → to < end → Passing f n Mapped a end (i + 1)
+  unfolding gives_of
+  passing_mapped p end q l u = rw q (passing_jump f n Mapped a to i p h r e d (bounds_hold r to l (omega arith)) refl)
+
   pub passing_gap : (w : Right) → to < r.start → grants_of (listed f i (n - i)) w to ≡ false
   passing_gap w l = grants_none f w to i (n - i) (apart_behind f n d i to h (subst (λ (q : Region). to < q.start) e l))

@@ -3,15 +3,17 @@
 --     placed_octet     an octet before the end at hand moves nothing
 --     placed_region    behind that end, a region that does not deny the octet is the next at hand
 --     placed_found     where an octet was passed, the first is in the memory as far before the end of the regions passed as it is before their last end
---     reach_none, reach-some   what is told where no octet was passed, and where one was
+--     reach_none, reach_all   what is told where the search broke off or had nothing to search, and where it came to the end
 use mathlib.Core.Bool.{false}
-use mathlib.Core.Logic.{⊎_elim}
-use mathlib.Core.Path.{◌≡◌, sym, ap, subst, ◌∙◌}
+use mathlib.Core.Logic.{◌⊎◌, ⊎_elim}
+use mathlib.Core.Path.{◌≡◌, refl, sym, ap, subst, ◌∙◌}
 use mathlib.Core.List.{List}
 use Prim.Native.Nat.{ℕ, ◌+◌, ◌-◌, ◌*◌, ◌<◌, ◌≤◌}
 use native.Mathlib.Omega.{arith}
+use lib.Dec.{eqb}
+use Rattle.octets.specs.Pick.{pick}
 use Rattle.octets.proofs.Cases.{lt_or_le}
-use Rattle.octets.proofs.Pick.{pick_eq, pick_ne}
+use Rattle.octets.proofs.Pick.{pick_eq, pick_ne, pick_both}
 use Rattle.regions.specs.Apart.{Apart}
 use Rattle.regions.specs.Denies.{denies_of}
 use Rattle.regions.specs.Region.{listed}
@@ -43,10 +45,10 @@ module _ (f : ℕ → Region) (n a : ℕ) where
     small = omega arith;
     dense = omega arith;
     rises = λ j l u. omega arith;
-    met = λ h. absurd (let z : ⊥ = omega arith in z);
-    close = λ h. absurd (let z : ⊥ = omega arith in z);
+    met = λ h. absurd (omega arith);
+    close = λ h. absurd (omega arith);
     unfound = λ h. ap (λ (rs : List Region). spot_of rs 0 a) (listed_whole f n);
-    found = λ h. absurd (let z : ⊥ = omega arith in z);
+    found = λ h. absurd (omega arith);
   }
 
   module _ (at end base i : ℕ) (since : a ≤ at) (k : Placed f n a at end base i) where
@@ -68,7 +70,7 @@ module _ (f : ℕ → Region) (n a : ℕ) where
       -- the first octet is searched yet, and this region has it
       here : end ≤ a → a < r.start + r.length → (p : ℕ) × Stands (listed f 0 n) 0 a p × (p + (r.start + r.length) ≡ base + r.length + a)
       here l u =
-          let same : at ≡ a = ⊎_elim (λ (v : a < at). absurd (let m = k.met v in let z : ⊥ = omega arith in z)) (λ (v : at ≤ a). let z : at ≡ a = omega arith in z) (lt_or_le a at) in
+          let same : at ≡ a = ⊎_elim (λ (v : a < at). absurd (let m = k.met v in omega arith)) (λ (v : at ≤ a). let z : at ≡ a = omega arith in z) (lt_or_le a at) in
           let s : r.start ≤ at = spared_start r w at t (omega arith) in
           (base + (a - r.start), (r.rights, k.unfound l ∙ spot_here f i n r e h base a (bounds_hold r a (omega arith) u)), omega arith)
 
@@ -112,20 +114,20 @@ module _ (f : ℕ → Region) (n a : ℕ) where
         (omega (arith, g.2), q ∙ sym (ap place_in g.1.1))
 
 module _ (rs : List Region) (w : Right) (a n : ℕ) where
-  -- a search that broke off tells no place
-  pub reach_short : (b : ℕ) → b ≡ before_of rs w a n → (b ≡ n → ⊥) → ◌≡◌ {A = Reach} record { before = b; place = 0 } (reach_of rs w a n)
+  -- a search that broke off, or had no octet to search, tells no place
+  pub reach_none : (b : ℕ) → b ≡ before_of rs w a n → (b < n) ⊎ (n ≡ 0) → ◌≡◌ {A = Reach} record { before = b; place = 0 } (reach_of rs w a n)
   unfolding reach_of
-  reach_short b e z = let p = sym (pick_ne (span_place rs a n) 0 (λ (q : before_of rs w a n ≡ n). z (e ∙ q))) in λ i. record { before = e i; place = p i }
-
-  pub reach_none : 0 ≡ before_of rs w a n → n ≡ 0 → ◌≡◌ {A = Reach} record { before = 0; place = 0 } (reach_of rs w a n)
-  unfolding reach_of
-  reach_none e z =
-      let p = sym (pick_eq (span_place rs a n) 0 (sym e ∙ sym z) ∙ pick_eq 0 (place_in (spot_of rs 0 a)) z) in
+  reach_none b e none =
+      let p : 0 ≡ pick (eqb (before_of rs w a n) n) (span_place rs a n) 0 =
+      ⊎_elim
+      (λ (h : b < n). sym (pick_ne _ _ (λ (q : before_of rs w a n ≡ n). omega arith)))
+      (λ (z : n ≡ 0). pick_both (λ (x : ℕ). 0 ≡ x) _ (sym (pick_eq _ _ z)) refl)
+      none in
       λ i. record { before = e i; place = p i }
 
   pub reach_all : (b place : ℕ) → b ≡ before_of rs w a n → b ≡ n → 1 ≤ b → place ≡ place_in (spot_of rs 0 a)
       → ◌≡◌ {A = Reach} record { before = b; place = place } (reach_of rs w a n)
   unfolding reach_of
   reach_all b place e all some q =
-      let p = q ∙ sym (pick_eq (span_place rs a n) 0 (sym e ∙ all) ∙ pick_ne 0 (place_in (spot_of rs 0 a)) (λ (z : n ≡ 0). let k : ⊥ = omega arith in k)) in
+      let p = q ∙ sym (pick_eq (span_place rs a n) 0 (sym e ∙ all) ∙ pick_ne 0 (place_in (spot_of rs 0 a)) (λ (z : n ≡ 0). omega arith)) in
       λ i. record { before = e i; place = p i }

@@ -109,7 +109,7 @@ spot_first end (r ∷ rs) d base g =
     (λ h.
     let later = mapped_spot rs base end (sym (grants_no r rs base end Mapped h) ∙ g) in
     let k = spot_from (r.start + r.length) rs d.2 base end later.0 later.1.0 later.1.1 in
-    absurd (let z : ⊥ = omega (arith, d.0, d.1) in z))
+    absurd (omega (arith, d.0, d.1)))
     (decided (holds_of r end))
 
 -- the octet behind one that has a place, if mapped, has the next place

@@ -31,7 +31,7 @@ before_all rs w a (suc n) all =
 -- and the other way round
 pub all_before : (rs : List Region) (w : Right) (a n : ℕ) → before_of rs w a n ≡ n → (x : ℕ) → a ≤ x → x < a + n → grants_of rs w x ≡ true
 unfolding before_of
-all_before rs w a zero e x l u = absurd (let k : ⊥ = omega arith in k)
+all_before rs w a zero e x l u = absurd (omega arith)
 all_before rs w a (suc n) e x l u =
     ⊎_elim
     (λ h.
@@ -40,7 +40,7 @@ all_before rs w a (suc n) e x l u =
     (λ (p : x < suc a). subst (λ (y : ℕ). grants_of rs w y ≡ true) (let q : a ≡ x = omega arith in q) h)
     (λ (p : suc a ≤ x). all_before rs w (suc a) n (omega arith) x p (omega arith))
     (lt_or_le x (suc a)))
-    (λ h. absurd (let m : 0 ≡ suc n = sym (pick_no _ _ h) ∙ e in let k : ⊥ = omega arith in k))
+    (λ h. absurd (let m : 0 ≡ suc n = sym (pick_no _ _ h) ∙ e in omega arith))
     (decided (grants_of rs w a))
 
 -- where m of the n octets have the right, the search goes on behind them
@@ -48,7 +48,7 @@ before_upto : (rs : List Region) (w : Right) (a n m : ℕ) → m ≤ n → ((x :
     → before_of rs w a n ≡ m + before_of rs w (a + m) (n - m)
 unfolding before_of
 before_upto rs w a n zero h all = ap₂ (before_of rs w) (let e : a ≡ a + 0 = omega arith in e) (let e : n ≡ n - 0 = omega arith in e) ∙ sym (zero-add _)
-before_upto rs w a zero (suc m) h all = absurd (let k : ⊥ = omega arith in k)
+before_upto rs w a zero (suc m) h all = absurd (omega arith)
 before_upto rs w a (suc n) (suc m) h all =
     let ih = before_upto rs w (suc a) n m (omega arith) (λ x l u. all x (omega arith) (omega arith)) in
     let e : suc a + m ≡ a + suc m = omega arith in

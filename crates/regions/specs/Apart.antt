@@ -1,5 +1,7 @@
 -- What a valid sheet's regions are: in the sheet, ordered, apart, and none empty.
 use Rattle.std.specs.Prelude.{ℕ, ◌+◌, ◌-◌, ◌*◌, ◌≤◌, List, [], ◌∷◌, length}
+use Rattle.std.specs.Coded.{Unit-prop, le_prop}
+use mathlib.Core.HLevel.{×₃_prop}
 use Rattle.regions.specs.Region.{regions_of}
 use Rattle.regions.specs.declared.Region.{Region}
 
@@ -12,3 +14,14 @@ Apart end (r ∷ rs) = (end ≤ r.start) × (1 ≤ r.length) × Apart (r.start +
 pub record Laid (s : List ℕ) (n : ℕ) : Type 0 where
   pub inside : 10 * n ≤ length s - 4
   pub apart : Apart 0 (regions_of s n)
+
+-- either is a fact, which a type can keep
+pub Apart-prop : (end : ℕ) (rs : List Region) → IsProp (Apart end rs)
+Apart-prop end [] = Unit-prop
+Apart-prop end (r ∷ rs) = ×₃_prop le_prop le_prop (Apart-prop (r.start + r.length) rs)
+
+pub Laid-prop : (s : List ℕ) (n : ℕ) → IsProp (Laid s n)
+Laid-prop s n x y i = record {
+  inside = le_prop x.inside y.inside i;
+  apart = Apart-prop 0 (regions_of s n) x.apart y.apart i;
+}

@@ -15,6 +15,15 @@ pub struct Region {
     pub rights: u8,
 }
 
+impl Region {
+    // One past the last address.
+    pub fn end(self) -> u64
+        ensures { result ≡ self.start + self.length }
+    {
+        self.start as u64 + self.length as u64
+    }
+}
+
 // What can be asked of an octet: that a region has it at all, and the three rights.
 #[derive(Clone, Copy)]
 pub enum Right {
@@ -24,7 +33,8 @@ pub enum Right {
     WriteSync,
 }
 
-// The region record at `at` of a sheet whose end does not cut it.
+// The region record at `at` of a sheet whose end does not cut it. `parameter_in` is its like for another record: they share no field, so one function for both
+// would be no plainer.
 pub fn region_in(sheet: &[u8], at: usize) -> Region
     requires { at + 10 ≤ length sheet.now }
     ensures { result ≡ region_from sheet.now at }
@@ -37,6 +47,7 @@ pub fn region_in(sheet: &[u8], at: usize) -> Region
 }
 
 // Whether a rights octet gives the right.
+#[tactic(auto, unfolding(crate::specs::Region::gives_of))]
 pub fn gives(rights: u8, right: Right) -> bool
     ensures { result ≡ gives_of rights right }
 {

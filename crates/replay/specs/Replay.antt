@@ -1,11 +1,13 @@
 -- The replay. Document 02, request 6: "Given sheet, state, memory and trace, tell the first record whose reply is not our machine's, with its number
 -- and the first differing octet, or that all agree, with the final state and memory."
-use Rattle.std.specs.Prelude.{ℕ, suc, ◌+◌, ◌*◌, not, List, [], ◌∷◌, eqb, ltb, length}
+use Rattle.std.specs.Prelude.{ℕ, suc, ◌≡◌, ◌+◌, ◌*◌, not, List, [], ◌∷◌, eqb, ltb, length}
 use Rattle.octets.specs.Pick.{pick}
 use Rattle.link.specs.Stored.{state_of}
+use Rattle.link.specs.declared.state.LinkState.{LinkState}
 use Rattle.sheet.specs.Walk.{verdict_of}
+use Rattle.sheet.specs.declared.walk.Layout.{Layout}
 use Rattle.slave.specs.Answers.{on_sheet, on_state, told}
-use Rattle.slave.specs.Exchange.{exchange_of}
+use Rattle.slave.specs.Exchange.{exchange_of, Running}
 use Rattle.slave.specs.Wanted.{Stepped, stepped_of, Performed, performed}
 use Rattle.slave.specs.declared.answers.Answer.{Answer}
 use Rattle.replay.specs.Trace.{Traced, checked_form, traced_of}
@@ -48,3 +50,9 @@ replay_of sheet state memory trace =
     (pick (eqb st.link 0) (replayed (told 5 0) state memory)
     (pick (not (eqb (checked_form lay.l trace).number 0)) (replayed (checked_form lay.l trace) state memory)
     (play_of sheet lay.l 0 state memory (traced_of lay.l trace))))))
+
+-- what a replay leans on from record to record: a memory of the sheet's length, and a state that is valid and not Disabled
+pub record Stands (state memory : List ℕ) (lay : Layout) : Type 0 where
+  pub whole : length memory ≡ lay.memory
+  pub st : LinkState
+  pub running : Running state lay st

@@ -1,10 +1,13 @@
 -- Document 02, request 6: "A trace is a run of records, kinds 21 to 25 hex for L of 8, 16, 32, 48 and 64, with the command and then the reply as
 -- body."
-use Rattle.std.specs.Prelude.{ℕ, zero, suc, ◌+◌, ◌*◌, ◌/◌, not, List, [], ◌∷◌, eqb, ltb, leb, length, get_or, drop}
+use Rattle.std.specs.Prelude.{ℕ, zero, suc, ◌≡◌, ◌+◌, ◌*◌, ◌/◌, ◌≤◌, not, List, [], ◌∷◌, eqb, ltb, leb, length, get_or, drop}
 use Rattle.octets.specs.Parts.{part}
 use Rattle.octets.specs.Pick.{pick}
 use Rattle.replay.specs.declared.form.Record.{Record}
 use Rattle.replay.specs.declared.form.Record.TheVariants.{End, Whole, Bad}
+use Rattle.replay.specs.Answers.{fault_number}
+use Rattle.replay.specs.declared.answers.Fault.{Fault}
+use Rattle.replay.specs.declared.answers.Fault.TheVariants.{Unknown, OtherLength, Cut}
 use Rattle.slave.specs.Answers.{told}
 use Rattle.slave.specs.declared.answers.Answer.{Answer}
 
@@ -23,10 +26,14 @@ fault_of l rest =
     (pick (not (eqb (kind_length (get_or rest 0 0)) l)) 32
     (pick (ltb (length rest) (record_size l)) 33 0))
 
+-- the fault of a number; a number that is none counts as the last
+unfoldable pub fault_named : ℕ → Fault
+fault_named n = pick (eqb n 31) Unknown (pick (eqb n 32) OtherLength Cut)
+
 -- what stands at a place of a trace
 unfoldable pub record_at : ℕ → List ℕ → ℕ → Record
 record_at l trace at =
-    pick (leb (length trace) at) End (pick (eqb (fault_of l (drop at trace)) 0) Whole (Bad (fault_of l (drop at trace))))
+    pick (leb (length trace) at) End (pick (eqb (fault_of l (drop at trace)) 0) Whole (Bad (fault_named (fault_of l (drop at trace)))))
 
 -- the command and the reply of the record at a place
 unfoldable pub command_at : ℕ → List ℕ → ℕ → List ℕ
@@ -39,13 +46,13 @@ reply_at l trace at = part (drop at trace) (1 + l) l
 unfoldable pub formed : Record → ℕ → Answer → Answer
 formed End place next = told 0 0
 formed Whole place next = next
-formed (Bad fault) place next = told fault place
+formed (Bad fault) place next = told (fault_number fault) place
 
 -- the number of a fault; 0 where there is none
 unfoldable pub fault_in : Record → ℕ
 fault_in End = 0
 fault_in Whole = 0
-fault_in (Bad fault) = fault
+fault_in (Bad fault) = fault_number fault
 
 -- the form of the n records from record k on; "the place is the record's first octet"
 unfoldable pub form_from : ℕ → List ℕ → ℕ → ℕ → Answer
@@ -76,3 +83,9 @@ records_of l (suc n) rest = traced (part rest 1 l) (part rest (1 + l) l) ∷ rec
 -- the records of a trace
 abbrev pub traced_of : ℕ → List ℕ → List Traced
 traced_of l trace = records_of l (length trace / record_size l) trace
+
+-- a trace of whole records whose places fit an answer: what a replay leans on where nothing is wrong with the form
+pub record Records (l : ℕ) (trace : List ℕ) : Type 0 where
+  pub short : length trace ≤ 1073741823
+  pub many : ℕ
+  pub whole : length trace ≡ many * record_size l

@@ -1,48 +1,53 @@
 // The form of a trace's records: the work of the reader, on a slice and a place.
-ghost use Rattle.std.specs.Prelude.{◌≡◌, ◌+◌, ◌≤◌, length, drop};
+ghost use Rattle.std.specs.Prelude.{◌≡◌, ◌+◌, ◌≤◌, length, drop, IfSome};
+ghost use Rattle.std.specs.Option.{unwrap_or};
+ghost use Rattle.replay.specs.Answers.{found_number};
 ghost use Rattle.replay.specs.Trace.{kind_length, record_size, fault_of, record_at, command_at, reply_at};
 
-// What stands at a place of a trace: nothing any more, a whole record, or a fault's number.
+use crate::answers::Fault;
+
+// What stands at a place of a trace: nothing any more, a whole record, or one with a fault.
 #[derive(Clone, Copy)]
 pub enum Record {
     End,
     Whole,
-    Bad(u8),
+    Bad(Fault),
 }
 
-// The L of a kind; 0 for a kind that is none.
-pub fn kind_length(kind: u8) -> u8
-    ensures { result ≡ kind_length kind }
+// The L of a kind, if it is one: a table from number to number, as `kind_length` is.
+#[tactic(auto, unfolding(crate::specs::Trace::kind_length, octets::specs::Pick::pick))]
+pub fn kind_length(kind: u8) -> Option<u8>
+    ensures length { unwrap_or result 0 ≡ kind_length kind }
+    ensures some { IfSome result (λ l. 1 ≤ l) }
 {
     match kind {
-        0x21 => 8,
-        0x22 => 16,
-        0x23 => 32,
-        0x24 => 48,
-        0x25 => 64,
-        _ => 0,
+        0x21 => Some(8),
+        0x22 => Some(16),
+        0x23 => Some(32),
+        0x24 => Some(48),
+        0x25 => Some(64),
+        _ => None,
     }
 }
 
-// The fault of the record at a place, 0 where it is whole; past the end the kind octet counts as 0, which is no kind.
-pub fn fault_at(trace: &[u8], at: usize, l: u8) -> u8
-    ensures { result ≡ fault_of l (drop at trace.now) }
+// The fault of the record at a place, if it has one; past the end there is no kind.
+pub fn fault_at(trace: &[u8], at: usize, l: u8) -> Option<Fault>
+    ensures { found_number result ≡ fault_of l (drop at trace.now) }
 {
     if trace.len() <= at {
-        return 31;
+        return Some(Fault::Unknown);
     }
-    let length = kind_length(trace[at]);
-    if length == 0 {
-        return 31;
-    }
+    let Some(length) = kind_length(trace[at]) else {
+        return Some(Fault::Unknown);
+    };
     if length != l {
-        return 32;
+        return Some(Fault::OtherLength);
     }
     // The place is below the length here, so the difference wraps for no place.
     if trace.len() - at < 1 + 2 * (l as usize) {
-        return 33;
+        return Some(Fault::Cut);
     }
-    0
+    None
 }
 
 // What stands at a place of a trace.
@@ -52,15 +57,14 @@ pub fn record_of(trace: &[u8], at: usize, l: u8) -> Record
     if trace.len() <= at {
         return Record::End;
     }
-    let fault = fault_at(trace, at, l);
-    if fault == 0 {
-        return Record::Whole;
+    match fault_at(trace, at, l) {
+        None => Record::Whole,
+        Some(fault) => Record::Bad(fault),
     }
-    Record::Bad(fault)
 }
 
 // The command of the whole record at a place: the L octets behind its kind.
-pub fn command_of<'a>(trace: &'a [u8], at: usize, l: u8) -> &'a [u8]
+pub fn command_of(trace: &[u8], at: usize, l: u8) -> &[u8]
     requires { at + record_size l ≤ length trace.now }
     ensures { result.now ≡ command_at l trace.now at }
 {
@@ -70,7 +74,7 @@ pub fn command_of<'a>(trace: &'a [u8], at: usize, l: u8) -> &'a [u8]
 }
 
 // The reply of the whole record at a place: the L octets behind its command.
-pub fn reply_of<'a>(trace: &'a [u8], at: usize, l: u8) -> &'a [u8]
+pub fn reply_of(trace: &[u8], at: usize, l: u8) -> &[u8]
     requires { at + record_size l ≤ length trace.now }
     ensures { result.now ≡ reply_at l trace.now at }
 {

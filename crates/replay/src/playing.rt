@@ -1,87 +1,77 @@
 // All records of a trace, and the refusals before them.
-ghost use Rattle.std.specs.Prelude.{◌≡◌, ℕ, ◌*◌, ◌≤◌, length};
-ghost use Rattle.link.specs.declared.state.LinkState.{LinkState};
-ghost use Rattle.sheet.specs.Walk.{verdict_of};
-ghost use Rattle.sheet.specs.declared.walk.Verdict.TheVariants.{Valid};
-ghost use Rattle.slave.specs.Exchange.{Running};
-ghost use Rattle.replay.specs.Trace.{record_size, traced_of};
-ghost use Rattle.replay.specs.Replay.{replayed, play_of, replay_of};
+ghost use Rattle.std.specs.Prelude.{◌≡◌, length};
+ghost use Rattle.replay.specs.Answers.{stopped};
+ghost use Rattle.replay.specs.Trace.{Records, traced_of};
+ghost use Rattle.replay.specs.Replay.{replayed, play_of, replay_of, Stands};
 
-use link::stored::Stored;
-use sheet::walk::{Layout, Verdict};
-use slave::answers::Answer;
+use crate::answers::Stop;
+use crate::reader::Reader;
+use sheet::device::Device;
+use slave::answers::Refusal;
+use slave::checked::Checked;
 
 // The records of a trace of whole ones, in their order, up to the first difference.
 fn play(
-    sheet: &[u8],
-    layout: Layout,
+    checked: &Checked,
     state: &mut [u8],
     memory: &mut [u8],
     trace: &[u8],
     room: &mut [u8],
-) -> Answer
-    requires { (verdict_of sheet.now ≡ Valid layout) × (length memory.old ≡ layout.memory) × (length room.old ≡ layout.l) × (length trace.now ≤ 1073741823) × ((n : ℕ) × (length trace.now ≡ n * record_size layout.l)) × ((st : LinkState) × Running state.old layout st) }
-    ensures { replayed result state.new memory.new ≡ play_of sheet.now layout.l 0 state.old memory.old (traced_of layout.l trace.now) }
+) -> Result<u32, Stop>
+    requires stands { Stands state.old memory.old checked.now.device.layout }
+    requires records { Records checked.now.device.layout.l trace.now }
+    requires room { length room.old ≡ checked.now.device.layout.l }
+    ensures { replayed (stopped result) state.new memory.new ≡ play_of checked.now.device.sheet.now checked.now.device.layout.l 0 state.old memory.old (traced_of checked.now.device.layout.l trace.now) }
 {
+    let mut reader = Reader::open(trace, checked.device.layout.l, 0);
     let mut k: u32 = 0;
-    let mut at: usize = 0;
-    while at < trace.len() {
-        let command = crate::reader::command_at(trace, at, layout.l);
-        let theirs = crate::reader::reply_at(trace, at, layout.l);
-        let d = crate::step::one(sheet, layout, state, memory, command, theirs, room);
-        if d < layout.l {
-            return Answer {
-                number: crate::numbers::DIFFERS,
-                place: 64 * k + d as u32,
-            };
+    // The reader has the place, as document 01 asks, so no range or iterator counts it.
+    while reader.at < trace.len() {
+        let command = reader.command();
+        let theirs = reader.reply();
+        if let Some(octet) = crate::step::one(checked, state, memory, command, theirs, room) {
+            return Err(Stop::Differs(64 * k + u32::from(octet)));
         }
         k += 1;
-        at = crate::reader::behind(trace, at, layout.l);
+        reader = reader.moved();
     }
-    Answer {
-        number: 0,
-        place: k,
-    }
+    Ok(k)
 }
 
 // The records in room of our own for one reply.
 fn play_all(
-    sheet: &[u8],
-    layout: Layout,
+    checked: &Checked,
     state: &mut [u8],
     memory: &mut [u8],
     trace: &[u8],
-) -> Answer
-    requires { (verdict_of sheet.now ≡ Valid layout) × (length memory.old ≡ layout.memory) × (length trace.now ≤ 1073741823) × ((n : ℕ) × (length trace.now ≡ n * record_size layout.l)) × ((st : LinkState) × Running state.old layout st) }
-    ensures { replayed result state.new memory.new ≡ play_of sheet.now layout.l 0 state.old memory.old (traced_of layout.l trace.now) }
+) -> Result<u32, Stop>
+    requires stands { Stands state.old memory.old checked.now.device.layout }
+    requires records { Records checked.now.device.layout.l trace.now }
+    ensures { replayed (stopped result) state.new memory.new ≡ play_of checked.now.device.sheet.now checked.now.device.layout.l 0 state.old memory.old (traced_of checked.now.device.layout.l trace.now) }
 {
+    // Fixed room, as nothing is allocated.
     let mut room = [0u8; 64];
-    let l = layout.l as usize;
-    play(sheet, layout, state, memory, trace, &mut room[..l])
+    let l = checked.device.layout.l as usize;
+    play(checked, state, memory, trace, &mut room[..l])
 }
 
 // A trace of any octets beside a sheet, a state record and a memory of any octets: the refusals first, then the form of the whole trace, then the
 // exchanges.
-pub fn replay(sheet: &[u8], state: &mut [u8], memory: &mut [u8], trace: &[u8]) -> Answer
-    ensures { replayed result state.new memory.new ≡ replay_of sheet.now state.old memory.old trace.now }
+pub fn replay(sheet: &[u8], state: &mut [u8], memory: &mut [u8], trace: &[u8]) -> Result<u32, Stop>
+    ensures { replayed (stopped result) state.new memory.new ≡ replay_of sheet.now state.old memory.old trace.now }
 {
-    let verdict = sheet::walk::check(sheet);
-    let Verdict::Valid(layout) = verdict else {
-        return slave::answers::sheet_answer(verdict);
-    };
+    let layout = sheet::walk::check(sheet)?;
     let held = link::stored::read(state, layout.l, layout.tolerance);
-    let Stored::State(st) = held else {
-        return slave::answers::plain(slave::answers::BAD_STATE);
-    };
+    let st = held.ok_or(Refusal::BadState)?;
     if memory.len() != layout.memory as usize {
-        return slave::answers::plain(slave::answers::BAD_MEMORY);
+        return Err(Refusal::BadMemory.into());
     }
     if st.link == link::state::DISABLED {
-        return slave::answers::plain(slave::answers::IS_DISABLED);
+        return Err(Refusal::IsDisabled.into());
     }
-    let form = crate::whole::checked(trace, layout.l);
-    if form.number != 0 {
-        return form;
-    }
-    play_all(sheet, layout, state, memory, trace)
+    crate::whole::checked(trace, layout.l)?;
+    let checked = Checked {
+        device: Device { sheet, layout },
+    };
+    play_all(&checked, state, memory, trace)
 }

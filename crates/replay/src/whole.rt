@@ -1,46 +1,34 @@
 // The form of a whole trace.
 ghost use Rattle.std.specs.Prelude.{◌≡◌, ◌≤◌, length};
-ghost use Rattle.replay.specs.Trace.{fault_in, form_of, checked_form};
+ghost use Rattle.replay.specs.Answers.{form_told};
+ghost use Rattle.replay.specs.Trace.{form_of, checked_form};
 
+use crate::answers::Stop;
 use crate::form::Record;
-use slave::answers::Answer;
+use crate::reader::Reader;
 
-// The number of a record's fault; 0 where it has none.
-fn fault_in(found: Record) -> u8
-    ensures { result ≡ fault_in found }
-{
-    match found {
-        Record::End => 0,
-        Record::Whole => 0,
-        Record::Bad(fault) => fault,
-    }
-}
-
-// The first fault of a trace with its place, record by record; 0 where all records are whole.
-fn form(trace: &[u8], l: u8) -> Answer
+// The first fault of a trace with its place, record by record.
+fn form(trace: &[u8], l: u8) -> Result<(), Stop>
     requires { length trace.now ≤ 1073741823 }
-    ensures { result ≡ form_of l trace.now }
+    ensures { form_told result ≡ form_of l trace.now }
 {
-    let mut at: usize = 0;
-    while at < trace.len() {
-        let fault = fault_in(crate::reader::record_at(trace, at, l));
-        if fault != 0 {
-            return Answer {
-                number: fault,
-                place: at as u32,
-            };
+    let mut reader = Reader::open(trace, l, 0);
+    // The reader has the place, as document 01 asks, so no range or iterator counts it.
+    loop {
+        match reader.record() {
+            Record::End => return Ok(()),
+            Record::Bad(fault) => return Err(Stop::Malformed(fault, reader.at as u32)),
+            Record::Whole => reader = reader.moved(),
         }
-        at = crate::reader::behind(trace, at, l);
     }
-    slave::answers::plain(0)
 }
 
 // The form of a trace of any length.
-pub fn checked(trace: &[u8], l: u8) -> Answer
-    ensures { result ≡ checked_form l trace.now }
+pub fn checked(trace: &[u8], l: u8) -> Result<(), Stop>
+    ensures { form_told result ≡ checked_form l trace.now }
 {
     if 1073741823 < trace.len() {
-        return slave::answers::plain(crate::numbers::TOO_LONG);
+        return Err(Stop::TooLong);
     }
     form(trace, l)
 }

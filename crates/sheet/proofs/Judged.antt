@@ -1,6 +1,7 @@
 -- What a reading that is a record tells of the fields that were judged.
+use Rattle.std.specs.Prelude.{Err, Ok}
 use mathlib.Core.Bool.{Bool, true}
-use mathlib.Core.Path.{◌≡◌}
+use mathlib.Core.Path.{◌≡◌, ap}
 use Prim.Native.Nat.{ℕ, ◌+◌, ◌≤◌, ◌<◌}
 use native.Mathlib.Omega.{arith}
 use borrow.Author.Tests.{ltb-false, leb-false, eqb-false, not-false}
@@ -11,17 +12,21 @@ use Rattle.sheet.specs.declared.entries.Parameter.{Parameter}
 use Rattle.sheet.specs.declared.entries.Item.{Item}
 use Rattle.sheet.specs.declared.records.Counts.{Counts}
 use Rattle.sheet.specs.declared.records.Fault.{Fault}
-use Rattle.sheet.specs.declared.records.Reading.TheVariants.{Record, Bad}
+use Rattle.sheet.specs.declared.records.Record.{Record}
+use Rattle.sheet.specs.Told.{Reading, reads}
 
 -- a fault is no record
-pub bad_record : {f : Fault} {n : ℕ} {next : Counts} → Bad f ≡ Record n next → ⊥
-bad_record e = let z : ◌≡◌ {A = ℕ} 0 1 = cc in omega arith
+pub bad_record : {f : Fault} {n : ℕ} {next : Counts} → Err f ≡ reads n next → ⊥
+bad_record e = cc
 
-pub same_size : {n m : ℕ} {a b : Counts} → Record n a ≡ Record m b → n ≡ m
-same_size e = cc
+same_record : {a b : Record} → ◌≡◌ {A = Reading} (Ok a) (Ok b) → a ≡ b
+same_record e = cc
 
-pub same_counts : {n m : ℕ} {a b : Counts} → Record n a ≡ Record m b → a ≡ b
-same_counts e = cc
+pub same_size : {n m : ℕ} {a b : Counts} → reads n a ≡ reads m b → n ≡ m
+same_size e = ap (λ (r : Record). r.size) (same_record e)
+
+pub same_counts : {n m : ℕ} {a b : Counts} → reads n a ≡ reads m b → a ≡ b
+same_counts e = ap (λ (r : Record). r.counts) (same_record e)
 
 pub record RegionRead (r : Region) (end : ℕ) (so : Counts) (n : ℕ) (next : Counts) : Type 0 where
   pub size : 10 ≡ n
@@ -33,7 +38,7 @@ pub record RegionRead (r : Region) (end : ℕ) (so : Counts) (n : ℕ) (next : C
   pub room : so.memory + r.length ≤ 65536
   pub rises : end ≤ r.start
 
-pub region_read : (r : Region) (end : ℕ) (so : Counts) (n : ℕ) (next : Counts) → judged_region r end so ≡ Record n next → RegionRead r end so n next
+pub region_read : (r : Region) (end : ℕ) (so : Counts) (n : ℕ) (next : Counts) → judged_region r end so ≡ reads n next → RegionRead r end so n next
 unfolding judged_region
 region_read r end so n next e =
     let p₁ = passed _ bad_record e in
@@ -64,7 +69,7 @@ pub record ParameterRead (p : Parameter) (least : ℕ) (mapped : Bool) (so : Cou
   pub inside : mapped ≡ true
 
 pub parameter_read : (p : Parameter) (least : ℕ) (mapped : Bool) (so : Counts) (n : ℕ) (next : Counts)
-    → judged_parameter p least mapped so ≡ Record n next → ParameterRead p least mapped so n next
+    → judged_parameter p least mapped so ≡ reads n next → ParameterRead p least mapped so n next
 unfolding judged_parameter
 parameter_read p least mapped so n next e =
     let p₁ = passed _ bad_record e in
@@ -93,7 +98,7 @@ pub record ItemRead (i : Item) (tail : Bool) (least : ℕ) (so : Counts) (n : �
   pub rises : least ≤ i.code
 
 pub item_read : (i : Item) (tail : Bool) (least : ℕ) (so : Counts) (n : ℕ) (next : Counts)
-    → judged_item i tail least so ≡ Record n next → ItemRead i tail least so n next
+    → judged_item i tail least so ≡ reads n next → ItemRead i tail least so n next
 unfolding judged_item
 item_read i tail least so n next e =
     let p₁ = passed _ bad_record e in
@@ -117,7 +122,7 @@ pub record ToleranceRead (x : ℕ) (so : Counts) (n : ℕ) (next : Counts) : Typ
   pub counts : record { regions = so.regions; parameters = so.parameters; items = so.items; tolerances = 1; releases = so.releases; memory = so.memory } ≡ next
   pub most : x ≤ 3
 
-pub tolerance_read : (x : ℕ) (so : Counts) (n : ℕ) (next : Counts) → judged_tolerance x so ≡ Record n next → ToleranceRead x so n next
+pub tolerance_read : (x : ℕ) (so : Counts) (n : ℕ) (next : Counts) → judged_tolerance x so ≡ reads n next → ToleranceRead x so n next
 unfolding judged_tolerance
 tolerance_read x so n next e =
     let p = passed _ bad_record e in
@@ -129,7 +134,7 @@ pub record ReleaseRead (x : ℕ) (so : Counts) (n : ℕ) (next : Counts) : Type 
   pub some : 1 ≤ x
   pub most : x ≤ 2
 
-pub release_read : (x : ℕ) (so : Counts) (n : ℕ) (next : Counts) → judged_release x so ≡ Record n next → ReleaseRead x so n next
+pub release_read : (x : ℕ) (so : Counts) (n : ℕ) (next : Counts) → judged_release x so ≡ reads n next → ReleaseRead x so n next
 unfolding judged_release
 release_read x so n next e =
     let p₁ = passed _ bad_record e in

@@ -1,4 +1,6 @@
 -- The laws of the device sheet.
+pub mod Picks
+pub mod Known
 pub mod Sought
 pub mod Judged
 pub mod Steps

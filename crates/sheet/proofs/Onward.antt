@@ -19,9 +19,9 @@ use Rattle.sheet.specs.Reading.{link_of, region_of, parameter_of, item_of, toler
 use Rattle.sheet.specs.Sound.{Sound, Counted, Standing, behind}
 use Rattle.sheet.specs.Walk.{none, place_of}
 use Rattle.sheet.specs.declared.records.Counts.{Counts}
-use Rattle.sheet.specs.declared.records.Reading.TheVariants.{Record}
 use Rattle.sheet.proofs.Judged.{bad_record, same_size, same_counts, region_read, parameter_read, item_read, tolerance_read, release_read}
 use Rattle.sheet.proofs.Steps.{step_link, step_region, step_parameter, step_item, step_tolerance, step_release}
+use Rattle.sheet.specs.Told.{reads}
 
 -- the regions that were counted are ordered and apart
 pub sound_apart : (s : List ℕ) (at : ℕ) (so : Counts) → Sound s at so → Apart 0 (regions_of s so.regions)
@@ -101,7 +101,7 @@ Goes s rest n next = (1 ≤ n) × (n ≤ length rest) × Sound s (place_of s res
 
 module _ (s rest : List ℕ) (so : Counts) (n : ℕ) (next : Counts) (st : Standing s rest so) where
   first_record : place_of s rest ≡ 0 → so ≡ none → misplaced_of true (get_or rest 0 0) so ≡ false → size_of (get_or rest 0 0) ≤ length rest
-      → body_of (get_or rest 0 0) s rest so ≡ Record n next → Goes s rest n next
+      → body_of (get_or rest 0 0) s rest so ≡ reads n next → Goes s rest n next
   unfolding misplaced_of body_of link_of size_of
   first_record z e m fits body =
       let kind : is_link (get_or rest 0 0) ≡ true = not-false _ m in
@@ -121,7 +121,7 @@ module _ (s rest : List ℕ) (so : Counts) (n : ℕ) (next : Counts) (st : Stand
 
   module _ (here : place_of s rest ≡ behind so) (first : length_fits (get_or s 0 0) (get_or s 1 0) ≡ true) (m : misplaced_of false (get_or rest 0 0) so ≡ false)
       (fits : size_of (get_or rest 0 0) ≤ length rest) where
-    later_region : get_or rest 0 0 ≡ 2 → region_of s rest so ≡ Record n next → Goes s rest n next
+    later_region : get_or rest 0 0 ≡ 2 → region_of s rest so ≡ reads n next → Goes s rest n next
     unfolding region_of size_of
     later_region kind body =
         let o = in_place (get_or rest 0 0) so m in
@@ -132,7 +132,7 @@ module _ (s rest : List ℕ) (so : Counts) (n : ℕ) (next : Counts) (st : Stand
           step_region s (place_of s rest) so st.sound first here n next (o.1 kind) q,
         )
 
-    later_parameter : get_or rest 0 0 ≡ 3 → parameter_of s rest so ≡ Record n next → Goes s rest n next
+    later_parameter : get_or rest 0 0 ≡ 3 → parameter_of s rest so ≡ reads n next → Goes s rest n next
     unfolding parameter_of size_of
     later_parameter kind body =
         let o = in_place (get_or rest 0 0) so m in
@@ -143,28 +143,28 @@ module _ (s rest : List ℕ) (so : Counts) (n : ℕ) (next : Counts) (st : Stand
           step_parameter s (place_of s rest) so st.sound first here n next (o.2 kind) q,
         )
 
-    later_item : get_or rest 0 0 ≡ 4 → size_of (get_or rest 0 0) ≡ 35 → item_of s rest so ≡ Record n next → Goes s rest n next
+    later_item : get_or rest 0 0 ≡ 4 → size_of (get_or rest 0 0) ≡ 35 → item_of s rest so ≡ reads n next → Goes s rest n next
     unfolding item_of
     later_item kind size body =
         let o = in_place (get_or rest 0 0) so m in
         let q = item_read _ _ _ so n next (rw st.part at body) in
         (omega (arith, q.size), subst (λ (k : ℕ). k ≤ length rest) (size ∙ q.size) fits, step_item s (place_of s rest) so st.sound first here n next (o.3 kind) q)
 
-    later_tolerance : get_or rest 0 0 ≡ 6 → size_of (get_or rest 0 0) ≡ 2 → tolerance_of rest so ≡ Record n next → Goes s rest n next
+    later_tolerance : get_or rest 0 0 ≡ 6 → size_of (get_or rest 0 0) ≡ 2 → tolerance_of rest so ≡ reads n next → Goes s rest n next
     unfolding tolerance_of
     later_tolerance kind size body =
         let o = in_place (get_or rest 0 0) so m in
         let q = tolerance_read _ so n next (rw st.part at body) in
         (omega (arith, q.size), subst (λ (k : ℕ). k ≤ length rest) (size ∙ q.size) fits, step_tolerance s (place_of s rest) so st.sound first here n next (o.4 kind) q)
 
-    later_release : get_or rest 0 0 ≡ 7 → size_of (get_or rest 0 0) ≡ 2 → release_of rest so ≡ Record n next → Goes s rest n next
+    later_release : get_or rest 0 0 ≡ 7 → size_of (get_or rest 0 0) ≡ 2 → release_of rest so ≡ reads n next → Goes s rest n next
     unfolding release_of
     later_release kind size body =
         let o = in_place (get_or rest 0 0) so m in
         let q = release_read _ so n next (rw st.part at body) in
         (omega (arith, q.size), subst (λ (k : ℕ). k ≤ length rest) (size ∙ q.size) fits, step_release s (place_of s rest) so st.sound first here n next (o.5 kind) q)
 
-    later_record : is_kind (get_or rest 0 0) ≡ true → (get_or rest 0 0 ≡ 0 → ⊥) → body_of (get_or rest 0 0) s rest so ≡ Record n next → Goes s rest n next
+    later_record : is_kind (get_or rest 0 0) ≡ true → (get_or rest 0 0 ≡ 0 → ⊥) → body_of (get_or rest 0 0) s rest so ≡ reads n next → Goes s rest n next
     unfolding body_of size_of
     later_record known n₀ body =
         let n₁ = (in_place (get_or rest 0 0) so m).0 in
@@ -189,7 +189,7 @@ module _ (s rest : List ℕ) (so : Counts) (n : ℕ) (next : Counts) (st : Stand
         (eq_or_ne (get_or rest 0 0) 3))
         (eq_or_ne (get_or rest 0 0) 2)
 
-  pub record_sound : record_of s rest so ≡ Record n next → (get_or rest 0 0 ≡ 0 → ⊥) → Goes s rest n next
+  pub record_sound : record_of s rest so ≡ reads n next → (get_or rest 0 0 ≡ 0 → ⊥) → Goes s rest n next
   unfolding record_of
   record_sound e n₀ =
       let p₁ = passed _ bad_record e in

@@ -1,3 +1,4 @@
+use Rattle.std.specs.Prelude.{Ok}
 -- What the walk's number tells: the counts, or the fault with its place, that it was made of.
 use mathlib.Core.Path.{◌≡◌, refl, ap, ◌∙◌}
 use mathlib.Core.List.{List}
@@ -14,7 +15,7 @@ use Rattle.sheet.specs.Walk.{layout_of}
 use Rattle.sheet.specs.declared.records.Counts.{Counts}
 use Rattle.sheet.specs.declared.records.Fault.{Fault}
 use Rattle.sheet.specs.declared.records.Fault.TheVariants.{Ended, Unknown, Misplaced, Range, Disorder, Excess, Unmapped}
-use Rattle.sheet.specs.declared.walk.Verdict.TheVariants.{Valid, Faulty}
+use Rattle.sheet.specs.Told.{faulty}
 
 pub fault_back : (fault : Fault) → fault_of (number_of fault) ≡ fault
 unfolding fault_of number_of pick
@@ -37,14 +38,14 @@ fault_some Disorder = omega arith
 fault_some Excess = omega arith
 fault_some Unmapped = omega arith
 
-pub tells_failed : (s : List ℕ) (fault : Fault) (place : ℕ) → place ≤ 65535 → tells s (failed_number fault place) ≡ Faulty fault place
+pub tells_failed : (s : List ℕ) (fault : Fault) (place : ℕ) → place ≤ 65535 → tells s (failed_number fault place) ≡ faulty fault place
 unfolding tells failed_number
 tells_failed s fault place h =
     let some = fault_some fault in
     let high : (place + 72057594037927936 * number_of fault) / 72057594037927936 ≡ number_of fault = omega arith in
     let low : (place + 72057594037927936 * number_of fault) % 65536 ≡ place = omega arith in
     pick_no _ _ (ap (λ (n : ℕ). eqb n 0) high ∙ ne_eqb _ _ (λ (z : number_of fault ≡ 0). let w : ⊥ = omega arith in w))
-    ∙ λ i. Faulty ((ap fault_of high ∙ fault_back fault) i) (low i)
+    ∙ λ i. faulty ((ap fault_of high ∙ fault_back fault) i) (low i)
 
 -- a number between others, each in room of its own
 digit : (x y z b c : ℕ) → x < b → y < c → (x + b * (y + c * z)) / b % c ≡ y
@@ -54,7 +55,7 @@ digit x y z b c h l =
     ap (λ (q : ℕ). q % c) (let e : (x + b * (y + c * z)) / b ≡ y + c * z = omega arith in e) ∙ add-mul-mod_self_left y c z ∙ mod-eq_of_lt l
 
 pub tells_counts : (s : List ℕ) (so : Counts) → so.regions ≤ 255 → so.parameters ≤ 255 → so.items ≤ 255 → so.tolerances ≤ 15 → so.releases ≤ 15
-    → so.memory ≤ 16777215 → tells s (counts_number so) ≡ Valid (layout_of s so)
+    → so.memory ≤ 16777215 → tells s (counts_number so) ≡ Ok (layout_of s so)
 unfolding tells counts_number counts_in
 tells_counts s so few-r few-p few-k few-t few-v room =
     let r = so.regions in
@@ -81,7 +82,7 @@ tells_counts s so few-r few-p few-k few-t few-v room =
     ∙ digit (r + 256 * p + 65536 * k + 16777216 * t + 268435456 * v) m 0 4294967296 16777216 (omega arith) (omega arith) in
     pick_eq _ _ (let none : n / 72057594037927936 ≡ 0 = div-eq_of_lt (omega arith) in none)
     ∙ λ i.
-    Valid (layout_of s (record {
+    Ok (layout_of s (record {
       regions = regions i;
       parameters = parameters i;
       items = items i;

@@ -12,6 +12,7 @@
 --     length_most       and at most 64
 --     length_short      and 16 in the short type
 --     same_layout       a sheet has one layout
+use Rattle.std.specs.Prelude.{Some, Err, Ok}
 use mathlib.Core.Bool.{Bool, true, false, not, ◌||◌, true≢false, and-eq-true_iff}
 use mathlib.Core.Logic.{⊎_elim}
 use mathlib.Core.Path.{◌≡◌, refl, sym, ap, subst, ◌∙◌}
@@ -33,21 +34,16 @@ use Rattle.sheet.specs.Sound.{Sound, Counted, Standing, FineParameter, FineItem,
 use Rattle.sheet.specs.Walk.{none, form_of, tolerance_in, release_in, place_of, layout_of, ended_of, onward, walk_of, verdict_of}
 use Rattle.sheet.specs.declared.entries.Parameter.{Parameter}
 use Rattle.sheet.specs.declared.entries.Item.{Item}
-use Rattle.sheet.specs.declared.entries.SoughtParameter.{SoughtParameter}
-use Rattle.sheet.specs.declared.entries.SoughtItem.{SoughtItem}
 use Rattle.sheet.specs.declared.records.Counts.{Counts}
 use Rattle.sheet.specs.declared.records.Fault.{Fault}
-use Rattle.sheet.specs.declared.records.Reading.{Reading}
-use Rattle.sheet.specs.declared.records.Reading.TheVariants.{Record, Bad}
 use Rattle.sheet.specs.declared.walk.Form.TheVariants.{Enhanced, Short}
 use Rattle.sheet.specs.declared.walk.Layout.{Layout}
-use Rattle.sheet.specs.declared.walk.Verdict.{Verdict}
-use Rattle.sheet.specs.declared.walk.Verdict.TheVariants.{Valid, Faulty}
 use Rattle.sheet.proofs.Judged.{bad_record}
 use Rattle.sheet.proofs.Onward.{link_begins, sound_apart, sound_counted, record_sound}
-use Rattle.sheet.proofs.Sought.{sought_keeps}
+use Rattle.sheet.proofs.Sought.{sought_has}
 use Rattle.sheet.proofs.Steps.{start_sound}
 use Rattle.sheet.proofs.Walked.{standing_behind}
+use Rattle.sheet.specs.Told.{Reading, reads, Verdict, faulty}
 
 pub record ValidSheet (s : List ℕ) (lay : Layout) : Type 0 where
   pub l_fits : length_fits (get_or s 0 0) lay.l ≡ true
@@ -58,15 +54,15 @@ pub record ValidSheet (s : List ℕ) (lay : Layout) : Type 0 where
   pub tolerance : lay.tolerance ≡ tolerance_in s (counts_of lay)
   pub release : lay.release ≡ release_in s (counts_of lay)
 
-no_fault : {f : Fault} {p : ℕ} {lay : Layout} → Faulty f p ≡ Valid lay → ⊥
-no_fault e = let z : ◌≡◌ {A = ℕ} 0 1 = cc in omega arith
+no_fault : {f : Fault} {p : ℕ} {lay : Layout} → faulty f p ≡ Ok lay → ⊥
+no_fault e = cc
 
-pub same_layout : {a b : Layout} → Valid a ≡ Valid b → a ≡ b
+pub same_layout : {a b : Layout} → ◌≡◌ {A = Verdict} (Ok a) (Ok b) → a ≡ b
 same_layout e = cc
 
 module _ (s rest : List ℕ) (so : Counts) (st : Standing s rest so) (lay : Layout) where
   -- at the end record: it is not the first, and it is the last octet
-  valid_end : (n : ℕ) (next : Counts) → record_of s rest so ≡ Record n next → get_or rest 0 0 ≡ 0 → ended_of s rest so ≡ Valid lay → ValidSheet s lay
+  valid_end : (n : ℕ) (next : Counts) → record_of s rest so ≡ reads n next → get_or rest 0 0 ≡ 0 → ended_of s rest so ≡ Ok lay → ValidSheet s lay
   unfolding record_of ended_of layout_of misplaced_of
   valid_end n next e k v =
       let p₁ = passed _ bad_record e in
@@ -95,13 +91,13 @@ module _ (s rest : List ℕ) (so : Counts) (st : Standing s rest so) (lay : Layo
 
   -- the reading of one record, taken apart
   valid_step : (read : Reading) (on : ℕ → Counts → Verdict) → record_of s rest so ≡ read
-      → ((n : ℕ) (next : Counts) → record_of s rest so ≡ Record n next → on n next ≡ Valid lay → ValidSheet s lay)
-      → onward read (place_of s rest) on ≡ Valid lay → ValidSheet s lay
+      → ((n : ℕ) (next : Counts) → record_of s rest so ≡ reads n next → on n next ≡ Ok lay → ValidSheet s lay)
+      → onward read (place_of s rest) on ≡ Ok lay → ValidSheet s lay
   unfolding onward
-  valid_step (Bad fault) on e go v = absurd (no_fault v)
-  valid_step (Record n next) on e go v = go n next e v
+  valid_step (Err fault) on e go v = absurd (no_fault v)
+  valid_step (Ok r) on e go v = go r.size r.counts e v
 
-valid_walk : (f : ℕ) (s rest : List ℕ) (so : Counts) → Standing s rest so → (lay : Layout) → walk_of f s rest so ≡ Valid lay → ValidSheet s lay
+valid_walk : (f : ℕ) (s rest : List ℕ) (so : Counts) → Standing s rest so → (lay : Layout) → walk_of f s rest so ≡ Ok lay → ValidSheet s lay
 unfolding walk_of
 valid_walk zero s rest so st lay v = absurd (no_fault v)
 valid_walk (suc f) s rest so st lay v =
@@ -114,7 +110,7 @@ valid_walk (suc f) s rest so st lay v =
     (eq_or_ne (get_or rest 0 0) 0))
     v
 
-pub valid_sheet : (s : List ℕ) (lay : Layout) → verdict_of s ≡ Valid lay → ValidSheet s lay
+pub valid_sheet : (s : List ℕ) (lay : Layout) → verdict_of s ≡ Ok lay → ValidSheet s lay
 unfolding verdict_of
 valid_sheet s lay v =
     let p = passed _ no_fault v in
@@ -129,7 +125,7 @@ valid_sheet s lay v =
     lay p.1
 
 enhanced_is : Enhanced ≡ Short → ⊥
-enhanced_is e = let z : ◌≡◌ {A = ℕ} 0 1 = cc in omega arith
+enhanced_is e = cc
 
 five_least : (l : ℕ) → is_length l ≡ true → 8 ≤ l
 unfolding is_length
@@ -181,41 +177,23 @@ module _ (s : List ℕ) (lay : Layout) (ok : ValidSheet s lay) where
   pub valid_counted : Counted s (counts_of lay)
   valid_counted = sound_counted s (behind (counts_of lay)) (counts_of lay) ok.sound (omega (arith, ok.octets))
 
-  pub valid_parameter : (n : ℕ) (p : Parameter) → sought_parameter (parameters_of s lay.regions lay.parameters) n ≡ SoughtParameter.Found p
+  pub valid_parameter : (n : ℕ) (p : Parameter) → sought_parameter (parameters_of s lay.regions lay.parameters) n ≡ Some p
       → FineParameter s lay.regions p
   valid_parameter n p e =
-      sought_keeps (λ (x : Parameter). x.number) SoughtParameter.Found SoughtParameter.Missing
-      (λ (r : SoughtParameter). (x : Parameter) → r ≡ SoughtParameter.Found x → FineParameter s lay.regions x)
-      (parameter_at s lay.regions) 0 lay.parameters n
-      (λ x m. absurd (let z : ◌≡◌ {A = ℕ} 0 1 = cc in let w : ⊥ = omega arith in w))
-      (λ i l u x m.
-      subst (λ (y : Parameter). FineParameter s lay.regions y) (let q : parameter_at s lay.regions i ≡ x = cc in q)
-      (ok.sound.parameters_fine i (omega arith)))
-      p e
+      sought_has (λ (x : Parameter). x.number) (parameter_at s lay.regions) lay.parameters n (λ (x : Parameter). FineParameter s lay.regions x)
+      ok.sound.parameters_fine p e
 
-  pub valid_item : (n : ℕ) (i : Item) → sought_item (items_of s lay.regions lay.parameters lay.items) n ≡ SoughtItem.Found i → FineItem i
-  valid_item n p e =
-      sought_keeps (λ (x : Item). x.code) SoughtItem.Found SoughtItem.Missing
-      (λ (r : SoughtItem). (x : Item) → r ≡ SoughtItem.Found x → FineItem x)
-      (item_at s lay.regions lay.parameters) 0 lay.items n
-      (λ x m. absurd (let z : ◌≡◌ {A = ℕ} 0 1 = cc in let w : ⊥ = omega arith in w))
-      (λ i l u x m.
-      subst (λ (y : Item). FineItem y) (let q : item_at s lay.regions lay.parameters i ≡ x = cc in q) (ok.sound.items_fine i (omega arith)))
-      p e
+  pub valid_item : (n : ℕ) (i : Item) → sought_item (items_of s lay.regions lay.parameters lay.items) n ≡ Some i → FineItem i
+  valid_item n i e =
+      sought_has (λ (x : Item). x.code) (item_at s lay.regions lay.parameters) lay.items n (λ (x : Item). FineItem x) ok.sound.items_fine i e
 
   -- the octets of an ID item that was found stand inside the sheet
-  pub item_inside : (n : ℕ) (i : Item) → sought_item (items_of s lay.regions lay.parameters lay.items) n ≡ SoughtItem.Found i
+  pub item_inside : (n : ℕ) (i : Item) → sought_item (items_of s lay.regions lay.parameters lay.items) n ≡ Some i
       → i.at + 32 ≤ length s
   unfolding item_from
-  item_inside n p e =
-      sought_keeps (λ (x : Item). x.code) SoughtItem.Found SoughtItem.Missing
-      (λ (r : SoughtItem). (x : Item) → r ≡ SoughtItem.Found x → x.at + 32 ≤ length s)
-      (item_at s lay.regions lay.parameters) 0 lay.items n
-      (λ x m. absurd (let z : ◌≡◌ {A = ℕ} 0 1 = cc in let w : ⊥ = omega arith in w))
-      (λ i l u x m.
-      subst (λ (y : Item). y.at + 32 ≤ length s) (let q : item_at s lay.regions lay.parameters i ≡ x = cc in q)
-      (let o = ok.octets in omega arith))
-      p e
+  item_inside n i e =
+      sought_has (λ (x : Item). x.code) (item_at s lay.regions lay.parameters) lay.items n (λ (x : Item). x.at + 32 ≤ length s)
+      (λ k h. let o = ok.octets in omega arith) i e
 
   -- the shortest PDU has 8 octets
   pub length_most : lay.l ≤ 64
@@ -228,7 +206,7 @@ module _ (s : List ℕ) (lay : Layout) (ok : ValidSheet s lay) where
   pub length_short : lay.form ≡ Short → lay.l ≡ 16
   length_short e = fits_short (get_or s 0 0) lay.l ok.l_fits (sym ok.form ∙ e)
 
-pub tolerance_small : (s : List ℕ) (lay : Layout) → verdict_of s ≡ Valid lay → lay.tolerance ≤ 3
+pub tolerance_small : (s : List ℕ) (lay : Layout) → verdict_of s ≡ Ok lay → lay.tolerance ≤ 3
 unfolding tolerance_in
 tolerance_small s lay v =
     let ok = valid_sheet s lay v in
@@ -237,7 +215,7 @@ tolerance_small s lay v =
     (λ (z : lay.tolerances ≡ 0 → ⊥). let e = ok.tolerance ∙ pick_ne _ _ z in let f = ok.sound.tolerance_fine (omega arith) in omega arith)
     (eq_or_ne lay.tolerances 0)
 
-release_fits : (s : List ℕ) (lay : Layout) → verdict_of s ≡ Valid lay → (1 ≤ lay.release) × (lay.release ≤ 2)
+release_fits : (s : List ℕ) (lay : Layout) → verdict_of s ≡ Ok lay → (1 ≤ lay.release) × (lay.release ≤ 2)
 unfolding release_in
 release_fits s lay v =
     let ok = valid_sheet s lay v in
@@ -249,8 +227,8 @@ release_fits s lay v =
     (omega (arith, f.0), omega (arith, f.1)))
     (eq_or_ne lay.releases 0)
 
-pub release_some : (s : List ℕ) (lay : Layout) → verdict_of s ≡ Valid lay → 1 ≤ lay.release
+pub release_some : (s : List ℕ) (lay : Layout) → verdict_of s ≡ Ok lay → 1 ≤ lay.release
 release_some s lay v = (release_fits s lay v).0
 
-pub release_small : (s : List ℕ) (lay : Layout) → verdict_of s ≡ Valid lay → lay.release ≤ 2
+pub release_small : (s : List ℕ) (lay : Layout) → verdict_of s ≡ Ok lay → lay.release ≤ 2
 release_small s lay v = (release_fits s lay v).1

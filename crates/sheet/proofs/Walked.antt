@@ -1,3 +1,4 @@
+use Rattle.std.specs.Prelude.{Err}
 -- The walk's definition, turn by turn, at every bound that is enough; and the part of the sheet that begins at a place.
 use mathlib.Core.Path.{◌≡◌, sym, ap, subst, ◌∙◌}
 use mathlib.Core.List.{List}
@@ -12,12 +13,9 @@ use Rattle.sheet.specs.Handed.{tells, failed_at}
 use Rattle.sheet.specs.Walk.{place_of, ended_of, onward, walk_of}
 use Rattle.sheet.specs.declared.records.Counts.{Counts}
 use Rattle.sheet.specs.declared.records.Fault.{Fault}
-use Rattle.sheet.specs.declared.records.Reading.{Reading}
-use Rattle.sheet.specs.declared.records.Reading.TheVariants.{Record, Bad}
-use Rattle.sheet.specs.declared.walk.Verdict.{Verdict}
-use Rattle.sheet.specs.declared.walk.Verdict.TheVariants.{Faulty}
 use Rattle.sheet.proofs.Onward.{Goes, sound_counted, record_sound}
 use Rattle.sheet.proofs.Told.{tells_failed}
+use Rattle.sheet.specs.Told.{Reading, reads, Verdict, faulty}
 
 -- the walk stands as well before what is behind a record
 pub standing_behind : (s rest : List ℕ) (so : Counts) (n : ℕ) (next : Counts) → Standing s rest so → Goes s rest n next → Standing s (drop n rest) next
@@ -50,13 +48,13 @@ module _ (s : List ℕ) (at : ℕ) (so : Counts) (st : (at ≤ length s) × Stan
     record_here : record_of s (drop at s) so ≡ read
     record_here = ap (λ (l : List ℕ). record_of s l so) (sym (part_from_lem at s)) ∙ sym is
 
-    pub walked_fault : (fault : Fault) → read ≡ Bad fault → (f : ℕ) → length s - at < f → tells s (failed_at read at) ≡ walk_of f s (drop at s) so
+    pub walked_fault : (fault : Fault) → read ≡ Err fault → (f : ℕ) → length s - at < f → tells s (failed_at read at) ≡ walk_of f s (drop at s) so
     unfolding walk_of onward failed_at
     walked_fault fault r zero h = absurd (let k : ⊥ = omega arith in k)
     walked_fault fault r (suc f) h =
-        rw (record_here, r) (tells_failed s fault at (omega (arith, st.0, st.1.short)) ∙ ap (Faulty fault) (place_from at s st.0))
+        rw (record_here, r) (tells_failed s fault at (omega (arith, st.0, st.1.short)) ∙ ap (faulty fault) (place_from at s st.0))
 
-    module _ (n : ℕ) (next : Counts) (r : read ≡ Record n next) where
+    module _ (n : ℕ) (next : Counts) (r : read ≡ reads n next) where
       pub walked_end : get_or (part_from at s) 0 0 ≡ 0 → (f : ℕ) → length s - at < f → ended_of s (drop at s) so ≡ walk_of f s (drop at s) so
       unfolding walk_of onward
       walked_end z zero h = absurd (let k : ⊥ = omega arith in k)

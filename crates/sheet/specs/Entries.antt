@@ -1,12 +1,10 @@
 -- Parameters and ID items of the sheet. Document 01: kind 03, number (2), address (4), size (1); kind 04, code (1), length (1), 32 octets.
-use Rattle.std.specs.Prelude.{ℕ, ◌+◌, ◌*◌, List, [], ◌∷◌, get_or, eqb}
+use Rattle.std.specs.Prelude.{ℕ, ◌+◌, ◌*◌, List, [], ◌∷◌, get_or, eqb, None, Option, Some}
 use Rattle.octets.specs.Numbers.{le2_at, le4_at}
 use Rattle.octets.specs.Pick.{pick}
 use Rattle.regions.specs.Region.{listed}
 use Rattle.sheet.specs.declared.entries.Parameter.{Parameter}
 use Rattle.sheet.specs.declared.entries.Item.{Item}
-use Rattle.sheet.specs.declared.entries.SoughtParameter.{SoughtParameter}
-use Rattle.sheet.specs.declared.entries.SoughtItem.{SoughtItem}
 
 -- the parameter record whose kind octet stands at a place of the sheet
 unfoldable pub parameter_from : List ℕ → ℕ → Parameter
@@ -37,9 +35,9 @@ sought key found missing [] n = missing
 sought key found missing (x ∷ xs) n = pick (eqb (key x) n) (found x) (sought key found missing xs n)
 
 -- the parameter of a number
-abbrev pub sought_parameter : List Parameter → ℕ → SoughtParameter
-sought_parameter = sought (λ p. p.number) SoughtParameter.Found SoughtParameter.Missing
+abbrev pub sought_parameter : List Parameter → ℕ → Option Parameter
+sought_parameter = sought (λ p. p.number) Some None
 
 -- the ID item of a code
-abbrev pub sought_item : List Item → ℕ → SoughtItem
-sought_item = sought (λ i. i.code) SoughtItem.Found SoughtItem.Missing
+abbrev pub sought_item : List Item → ℕ → Option Item
+sought_item = sought (λ i. i.code) Some None

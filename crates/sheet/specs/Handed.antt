@@ -1,15 +1,12 @@
 -- How the walk's code hands its answer back: as one number. The verdict (Walk.antt) is told without it.
-use Rattle.std.specs.Prelude.{ℕ, ◌+◌, ◌*◌, ◌/◌, ◌%◌, List, eqb}
+use Rattle.std.specs.Prelude.{ℕ, ◌+◌, ◌*◌, ◌/◌, ◌%◌, List, eqb, Err, Ok}
 use Rattle.octets.specs.Pick.{pick}
 use Rattle.sheet.specs.Faults.{number_of}
 use Rattle.sheet.specs.Walk.{layout_of}
 use Rattle.sheet.specs.declared.records.Counts.{Counts}
 use Rattle.sheet.specs.declared.records.Fault.{Fault}
 use Rattle.sheet.specs.declared.records.Fault.TheVariants.{Ended, Unknown, Misplaced, Range, Disorder, Excess, Unmapped}
-use Rattle.sheet.specs.declared.records.Reading.{Reading}
-use Rattle.sheet.specs.declared.records.Reading.TheVariants.{Record, Bad}
-use Rattle.sheet.specs.declared.walk.Verdict.{Verdict}
-use Rattle.sheet.specs.declared.walk.Verdict.TheVariants.{Valid, Faulty}
+use Rattle.sheet.specs.Told.{Reading, reads, Verdict, faulty}
 
 -- for a whole sheet its counts, each in room of its own
 unfoldable pub counts_number : Counts → ℕ
@@ -44,10 +41,10 @@ fault_of n =
 unfoldable pub tells : List ℕ → ℕ → Verdict
 tells s n =
     pick (eqb (n / 72057594037927936) 0)
-    (Valid (layout_of s (counts_in n)))
-    (Faulty (fault_of (n / 72057594037927936)) (n % 65536))
+    (Ok (layout_of s (counts_in n)))
+    (faulty (fault_of (n / 72057594037927936)) (n % 65536))
 
 -- the fault of a reading, with its place: asked only of a reading that is no record
 unfoldable pub failed_at : Reading → ℕ → ℕ
-failed_at (Bad fault) place = failed_number fault place
-failed_at (Record size next) place = failed_number Ended place
+failed_at (Err fault) place = failed_number fault place
+failed_at (Ok r) place = failed_number Ended place

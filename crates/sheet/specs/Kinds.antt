@@ -1,8 +1,11 @@
 -- The kinds of record, where each may stand, and what each is compared with. `so` counts what was read so far.
-use Rattle.std.specs.Prelude.{ℕ, ◌+◌, ◌-◌, Bool, true, false, not, ◌&&◌, ◌||◌, List, eqb, ltb, leb}
+use Rattle.std.specs.Prelude.{ℕ, ◌+◌, ◌-◌, Bool, true, false, not, ◌&&◌, ◌||◌, List, eqb, ltb, leb, ◌≡◌, Result, MatchResult}
 use Rattle.octets.specs.Pick.{pick}
 use Rattle.regions.specs.Region.{region_at}
 use Rattle.sheet.specs.Entries.{parameter_at, item_at}
+use Rattle.sheet.specs.declared.kinds.Kind.{Kind}
+use Rattle.sheet.specs.declared.kinds.Kind.TheVariants.{End, Link, Region, Parameter, Item, ShortLink, Tolerance, Release}
+use Rattle.sheet.specs.declared.kinds.UnknownKind.{UnknownKind}
 use Rattle.sheet.specs.declared.records.Counts.{Counts}
 
 -- PDU length L of 8, 16, 32, 48 or 64
@@ -13,6 +16,20 @@ is_length l = eqb l 8 || eqb l 16 || eqb l 32 || eqb l 48 || eqb l 64
 -- 13: 07 release
 unfoldable pub is_kind : ℕ → Bool
 is_kind kind = leb kind 7
+
+abbrev pub kind_number : Kind → ℕ
+kind_number End = 0
+kind_number Link = 1
+kind_number Region = 2
+kind_number Parameter = 3
+kind_number Item = 4
+kind_number ShortLink = 5
+kind_number Tolerance = 6
+kind_number Release = 7
+
+-- the kind of a number, or none for a number that is no kind's
+abbrev pub NamesKind : ℕ → Result Kind UnknownKind → Type 0
+NamesKind n r = MatchResult r (λ kind. kind_number kind ≡ n) (λ e. (e.0 ≡ n) × (is_kind n ≡ false))
 
 -- request 7: "A record of new kind 05, body as kind 01, .. stands in the link record's place"
 abbrev pub is_link : ℕ → Bool

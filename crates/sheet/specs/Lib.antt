@@ -1,6 +1,7 @@
 -- Definitions of the device sheet (document 01, "The device sheet"), in reading order.
 pub mod Entries
 pub mod Faults
+pub mod Told
 pub mod Kinds
 pub mod Judging
 pub mod Reading

@@ -1,6 +1,6 @@
 -- One record's reading: the checks in document 01's order, the first that fails is told. `s` is the whole sheet, `rest` its octets from
 -- the record's first on, `so` counts what was read before.
-use Rattle.std.specs.Prelude.{ℕ, ◌+◌, ◌-◌, not, List, eqb, ltb, length, get_or, take, drop}
+use Rattle.std.specs.Prelude.{ℕ, ◌+◌, ◌-◌, not, List, eqb, ltb, length, get_or, take, drop, Err}
 use Rattle.octets.specs.Parts.{all_zero}
 use Rattle.octets.specs.Pick.{pick}
 use Rattle.regions.specs.Region.{region_from, regions_of}
@@ -11,16 +11,15 @@ use Rattle.sheet.specs.Judging.{judged_region, judged_parameter, judged_item, ju
 use Rattle.sheet.specs.Kinds.{is_kind, is_link, length_fits, size_of, misplaced_of, end_before, least_number, least_code}
 use Rattle.sheet.specs.declared.records.Counts.{Counts}
 use Rattle.sheet.specs.declared.records.Fault.TheVariants.{Ended, Unknown, Misplaced, Range}
-use Rattle.sheet.specs.declared.records.Reading.{Reading}
-use Rattle.sheet.specs.declared.records.Reading.TheVariants.{Record, Bad}
+use Rattle.sheet.specs.Told.{Reading, reads}
 
 -- a record of n octets that the sheet's end cuts short is fault 11
 abbrev pub whole : ℕ → List ℕ → Reading → Reading
-whole n rest r = pick (ltb (length rest) n) (Bad Ended) r
+whole n rest r = pick (ltb (length rest) n) (Err Ended) r
 
 -- kinds 01 and 05: L fits the kind; version and profile are free
 unfoldable pub link_of : List ℕ → Counts → Reading
-link_of rest so = pick (not (length_fits (get_or rest 0 0) (get_or rest 1 0))) (Bad Range) (Record 4 so)
+link_of rest so = pick (not (length_fits (get_or rest 0 0) (get_or rest 1 0))) (Err Range) (reads 4 so)
 
 -- kind 02
 unfoldable pub region_of : List ℕ → List ℕ → Counts → Reading
@@ -51,7 +50,7 @@ release_of rest so = judged_release (get_or rest 1 0) so
 -- a whole record of a known kind in its place; the end record, kind 00, has no body
 unfoldable pub body_of : ℕ → List ℕ → List ℕ → Counts → Reading
 body_of kind s rest so =
-    pick (eqb kind 0) (Record 1 so)
+    pick (eqb kind 0) (reads 1 so)
     (pick (is_link kind) (link_of rest so)
     (pick (eqb kind 2) (region_of s rest so)
     (pick (eqb kind 3) (parameter_of s rest so)
@@ -62,8 +61,8 @@ body_of kind s rest so =
 -- "sheet ended before an end record (11), unknown kind (12), kind out of place (13), body cut short (11)", then the record's own checks
 unfoldable pub record_of : List ℕ → List ℕ → Counts → Reading
 record_of s rest so =
-    pick (eqb (length rest) 0) (Bad Ended)
-    (pick (not (is_kind (get_or rest 0 0))) (Bad Unknown)
-    (pick (misplaced_of (eqb (length rest) (length s)) (get_or rest 0 0) so) (Bad Misplaced)
+    pick (eqb (length rest) 0) (Err Ended)
+    (pick (not (is_kind (get_or rest 0 0))) (Err Unknown)
+    (pick (misplaced_of (eqb (length rest) (length s)) (get_or rest 0 0) so) (Err Misplaced)
     (whole (size_of (get_or rest 0 0)) rest
     (body_of (get_or rest 0 0) s rest so))))

@@ -1,7 +1,8 @@
 -- What holds of the records read so far, at every step of the walk: what the walk's own promise leans on, and, at its end, the laws of a
 -- valid sheet.
 use Rattle.std.specs.Prelude.{ℕ, suc, ◌+◌, ◌-◌, ◌*◌, ◌≤◌, ◌<◌, true, List, ◌⊎◌, ◌≡◌, length, get_or, drop}
-use Rattle.regions.specs.Apart.{Laid}
+use Rattle.std.specs.Coded.{le_prop}
+use Rattle.regions.specs.Apart.{Laid, Laid-prop}
 use Rattle.regions.specs.Region.{region_at, regions_of}
 use Rattle.regions.specs.Search.{total_of, before_of}
 use Rattle.regions.specs.declared.Region.{Region}
@@ -62,6 +63,13 @@ pub record Sound (s : List ℕ) (at : ℕ) (so : Counts) : Type 0 where
 pub record Counted (s : List ℕ) (so : Counts) : Type 0 where
   pub inside : 10 * so.regions + 8 * so.parameters + 35 * so.items ≤ length s - 4
   pub laid : Laid s so.regions
+
+-- that is a fact, which a type can keep
+pub Counted-prop : (s : List ℕ) (so : Counts) → IsProp (Counted s so)
+Counted-prop s so x y i = record {
+  inside = le_prop x.inside y.inside i;
+  laid = Laid-prop s so.regions x.laid y.laid i;
+}
 
 -- the counts of a valid sheet, out of its layout: what the machine's searches lean on is that these records are in the sheet
 abbrev pub counts_of : Layout → Counts

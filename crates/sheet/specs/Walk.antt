@@ -1,16 +1,13 @@
 -- The verdict on a whole sheet. Document 01: "The sheet is read record by record from its front, and the first fault is told."
-use Rattle.std.specs.Prelude.{ℕ, zero, suc, ◌+◌, ◌-◌, ◌*◌, List, eqb, ltb, length, get_or, drop}
+use Rattle.std.specs.Prelude.{ℕ, zero, suc, ◌+◌, ◌-◌, ◌*◌, List, eqb, ltb, length, get_or, drop, Err, Ok}
 use Rattle.octets.specs.Pick.{pick}
 use Rattle.sheet.specs.Reading.{record_of}
 use Rattle.sheet.specs.declared.records.Counts.{Counts}
 use Rattle.sheet.specs.declared.records.Fault.TheVariants.{Ended, Misplaced}
-use Rattle.sheet.specs.declared.records.Reading.{Reading}
-use Rattle.sheet.specs.declared.records.Reading.TheVariants.{Record, Bad}
 use Rattle.sheet.specs.declared.walk.Form.{Form}
 use Rattle.sheet.specs.declared.walk.Form.TheVariants.{Enhanced, Short}
 use Rattle.sheet.specs.declared.walk.Layout.{Layout}
-use Rattle.sheet.specs.declared.walk.Verdict.{Verdict}
-use Rattle.sheet.specs.declared.walk.Verdict.TheVariants.{Valid, Faulty}
+use Rattle.sheet.specs.Told.{Reading, Verdict, faulty}
 
 abbrev pub counts : ℕ → ℕ → ℕ → ℕ → ℕ → ℕ → Counts
 counts regions parameters items tolerances releases memory =
@@ -56,20 +53,20 @@ place_of s rest = length s - length rest
 
 -- "Octets after the end record are fault 13 at the first of them"
 unfoldable pub ended_of : List ℕ → List ℕ → Counts → Verdict
-ended_of s rest so = pick (ltb 1 (length rest)) (Faulty Misplaced (place_of s rest + 1)) (Valid (layout_of s so))
+ended_of s rest so = pick (ltb 1 (length rest)) (faulty Misplaced (place_of s rest + 1)) (Ok (layout_of s so))
 
 -- what one record's reading leads to: its fault with its place, or what comes behind the record
 unfoldable pub onward : Reading → ℕ → (ℕ → Counts → Verdict) → Verdict
-onward (Bad fault) place behind = Faulty fault place
-onward (Record size next) place behind = behind size next
+onward (Err fault) place behind = faulty fault place
+onward (Ok r) place behind = behind r.size r.counts
 
 -- the walk over the octets `rest` of the sheet `s`; its first argument bounds the number of records, and one more than the octets is enough
 unfoldable pub walk_of : ℕ → List ℕ → List ℕ → Counts → Verdict
-walk_of zero s rest so = Faulty Ended (place_of s rest)
+walk_of zero s rest so = faulty Ended (place_of s rest)
 walk_of (suc f) s rest so =
     onward (record_of s rest so) (place_of s rest)
     (λ size next. pick (eqb (get_or rest 0 0) 0) (ended_of s rest so) (walk_of f s (drop size rest) next))
 
 -- "A sheet over 2,048 octets is fault 11 at place 0."
 unfoldable pub verdict_of : List ℕ → Verdict
-verdict_of s = pick (ltb 2048 (length s)) (Faulty Ended 0) (walk_of (suc (length s)) s s none)
+verdict_of s = pick (ltb 2048 (length s)) (faulty Ended 0) (walk_of (suc (length s)) s s none)

@@ -1,4 +1,5 @@
-// Parameters and ID items, read where the caller holds the sheet. Records have fixed sizes, so counts and an index give a place.
+// Parameters and ID items, read where the caller holds the sheet. Records have fixed sizes, so counts and an index give a place. Sheet and counts go side by side,
+// since `find_item` and `item_at` answer on any of them; a type that keeps that the records lie in the sheet would ask more.
 ghost use Rattle.std.specs.Prelude.{◌≡◌, ◌+◌, ◌-◌, ◌*◌, ◌≤◌, length};
 ghost use Rattle.sheet.specs.Entries.{parameter_from, parameter_at, item_from, item_at, parameters_of, items_of, sought_parameter, sought_item};
 
@@ -18,19 +19,8 @@ pub struct Item {
     pub at: u16,
 }
 
-#[derive(Clone, Copy)]
-pub enum SoughtParameter {
-    Found(Parameter),
-    Missing,
-}
-
-#[derive(Clone, Copy)]
-pub enum SoughtItem {
-    Found(Item),
-    Missing,
-}
-
 // The parameter record at `at` of a sheet whose end does not cut it.
+#[tactic(auto, unfolding(crate::specs::Entries::parameter_from))]
 pub fn parameter_in(sheet: &[u8], at: usize) -> Parameter
     requires { at + 8 ≤ length sheet.now }
     ensures { result ≡ parameter_from sheet.now at }
@@ -43,6 +33,7 @@ pub fn parameter_in(sheet: &[u8], at: usize) -> Parameter
 }
 
 // The ID item record whose kind octet stands at `at`; octets past the end count as 0.
+#[tactic(auto, unfolding(crate::specs::Entries::item_from))]
 pub fn item_from(sheet: &[u8], at: u16) -> Item
     requires { at + 3 ≤ 65535 }
     ensures { result ≡ item_from sheet.now at }
@@ -73,41 +64,39 @@ fn parameter_at(sheet: &[u8], regions: u8, j: u8) -> Parameter
 }
 
 // The parameter of a number, in a sheet whose end cuts no parameter. The last one is asked behind the loop, so that there is one way out of the search:
-// with two, the compiler sets what a refusal carries at each record that it passes.
-pub fn find_parameter(sheet: &[u8], regions: u8, parameters: u8, number: u16) -> SoughtParameter
+// with two, the compiler sets what a refusal carries at each record that it passes. The range's `find` was tried, and is slower by a third.
+#[tactic(auto, using(crate::proofs::Sought::sought_none))]
+pub fn find_parameter(sheet: &[u8], regions: u8, parameters: u8, number: u16) -> Option<Parameter>
     requires { 10 * regions + 8 * parameters ≤ length sheet.now - 4 }
     ensures { result ≡ sought_parameter (parameters_of sheet.now regions parameters) number }
 {
     if parameters == 0 {
-        return SoughtParameter::Missing;
+        return None;
     }
-    let last = parameters - 1;
-    let mut j: u8 = 0;
-    while j < last {
-        let passed = parameter_at(sheet, regions, j);
-        if passed.number == number {
+    let mut at = parameters - 1;
+    for j in 0..parameters - 1 {
+        if parameter_at(sheet, regions, j).number == number {
+            at = j;
             break;
         }
-        j += 1;
     }
-    let parameter = parameter_at(sheet, regions, j);
+    let parameter = parameter_at(sheet, regions, at);
     if parameter.number == number {
-        return SoughtParameter::Found(parameter);
+        return Some(parameter);
     }
-    SoughtParameter::Missing
+    None
 }
 
-// The ID item of a code.
-pub fn find_item(sheet: &[u8], regions: u8, parameters: u8, items: u8, code: u8) -> SoughtItem
+// The ID item of a code. One search for both kinds of entry would take the entry and its key as closures, and say of their calls what `sought` says at once.
+#[tactic(auto, using(crate::proofs::Sought::sought_none))]
+pub fn find_item(sheet: &[u8], regions: u8, parameters: u8, items: u8, code: u8) -> Option<Item>
     ensures { result ≡ sought_item (items_of sheet.now regions parameters items) code }
 {
-    let mut k: u8 = 0;
-    while k < items {
+    for k in 0..items {
         let item = item_at(sheet, regions, parameters, k);
         if item.code == code {
-            return SoughtItem::Found(item);
+            return Some(item);
         }
-        k += 1;
     }
-    SoughtItem::Missing
+    None
 }

@@ -1,10 +1,49 @@
 // The kinds of record: where each may stand, and what its order is held against.
 ghost use Rattle.std.specs.Prelude.{◌≡◌, ◌+◌, ◌-◌, ◌*◌, ◌≤◌, length};
-ghost use Rattle.sheet.specs.Kinds.{is_length, is_kind, length_fits, misplaced_of, end_before, least_number, least_code};
+ghost use Rattle.sheet.specs.Kinds.{NamesKind, is_length, is_kind, length_fits, misplaced_of, end_before, least_number, least_code};
 
 use crate::records::Counts;
 
-// Whether a PDU length is one of the five.
+// The kinds of record, in the order of their numbers.
+#[derive(Clone, Copy, PartialEq, Eq)]
+pub enum Kind {
+    End,
+    Link,
+    Region,
+    Parameter,
+    Item,
+    ShortLink,
+    Tolerance,
+    Release,
+}
+
+// A kind octet that no record has.
+#[derive(Clone, Copy, PartialEq, Eq)]
+pub struct UnknownKind(pub u8);
+
+impl TryFrom<u8> for Kind {
+    type Error = UnknownKind;
+
+    ghost try_from_gives = { NamesKind };
+
+    #[tactic(auto, unfolding(crate::specs::Kinds::is_kind))]
+    fn try_from(number: u8) -> Result<Kind, UnknownKind> {
+        match number {
+            0 => Ok(Kind::End),
+            1 => Ok(Kind::Link),
+            2 => Ok(Kind::Region),
+            3 => Ok(Kind::Parameter),
+            4 => Ok(Kind::Item),
+            5 => Ok(Kind::ShortLink),
+            6 => Ok(Kind::Tolerance),
+            7 => Ok(Kind::Release),
+            _ => Err(UnknownKind(number)),
+        }
+    }
+}
+
+// Whether a PDU length is one of the five: a set like `is_command_alarm` of link, but another.
+#[tactic(auto, unfolding(crate::specs::Kinds::is_length))]
 pub fn is_length(l: u8) -> bool
     ensures { result ≡ is_length l }
 {
@@ -12,6 +51,7 @@ pub fn is_length(l: u8) -> bool
 }
 
 // Whether a link record of a kind may have a PDU length: one of the five, in the short type's 16.
+#[tactic(auto, unfolding(crate::specs::Kinds::length_fits))]
 pub fn length_fits(kind: u8, l: u8) -> bool
     ensures { result ≡ length_fits kind l }
 {
@@ -19,13 +59,16 @@ pub fn length_fits(kind: u8, l: u8) -> bool
 }
 
 // Whether a kind is one of those that a sheet may have.
+#[tactic(auto, unfolding(crate::specs::Kinds::is_kind))]
 pub fn is_kind(kind: u8) -> bool
     ensures { result ≡ is_kind kind }
 {
     kind <= 7
 }
 
-// Whether a known kind is out of place: at the front all but a link record, behind it a link record and what should come before.
+// Whether a known kind is out of place: at the front all but a link record, behind it a link record and what should come before. It goes by the number, since
+// `misplaced_of` answers on every octet.
+#[tactic(auto, unfolding(crate::specs::Kinds::misplaced_of))]
 pub fn misplaced(first: bool, kind: u8, so: Counts) -> bool
     ensures { result ≡ misplaced_of first kind so }
 {
@@ -45,6 +88,7 @@ pub fn misplaced(first: bool, kind: u8, so: Counts) -> bool
 }
 
 // One past the last address of the region read last; 0 where none was read.
+#[tactic(auto, using(crate::proofs::Picks::picks), unfolding(crate::specs::Kinds::end_before))]
 pub fn end_before(sheet: &[u8], so: Counts) -> u64
     requires { 10 * so.regions ≤ length sheet.now - 4 }
     ensures { result ≡ end_before sheet.now so }
@@ -58,6 +102,7 @@ pub fn end_before(sheet: &[u8], so: Counts) -> u64
 }
 
 // The least number that the next parameter may have: one more than the number read last.
+#[tactic(auto, using(crate::proofs::Picks::picks), unfolding(crate::specs::Kinds::least_number))]
 pub fn least_number(sheet: &[u8], so: Counts) -> u32
     requires { 10 * so.regions + 8 * so.parameters ≤ length sheet.now - 4 }
     ensures { result ≡ least_number sheet.now so }
@@ -72,6 +117,7 @@ pub fn least_number(sheet: &[u8], so: Counts) -> u32
 }
 
 // The least code that the next ID item may have: one more than the code read last.
+#[tactic(auto, using(crate::proofs::Picks::picks), unfolding(crate::specs::Kinds::least_code))]
 pub fn least_code(sheet: &[u8], so: Counts) -> u16
     ensures { result ≡ least_code sheet.now so }
 {

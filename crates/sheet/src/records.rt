@@ -25,24 +25,34 @@ pub struct Counts {
     pub memory: u32,
 }
 
-// A record, with its size and the counts behind it, or a fault.
+// A record as it was read: its size, and the counts behind it.
 #[derive(Clone, Copy)]
-pub enum Reading {
-    Record(u8, Counts),
-    Bad(Fault),
+pub struct Record {
+    pub size: u8,
+    pub counts: Counts,
 }
 
-// The paper's number of a fault.
-pub fn fault_number(fault: Fault) -> u8
-    ensures { result ≡ number_of fault }
-{
-    match fault {
-        Fault::Ended => 11,
-        Fault::Unknown => 12,
-        Fault::Misplaced => 13,
-        Fault::Range => 14,
-        Fault::Disorder => 15,
-        Fault::Excess => 16,
-        Fault::Unmapped => 17,
+// What is wrong with a sheet, and where: the first octet of the record at fault.
+#[derive(Clone, Copy)]
+pub struct Flaw {
+    pub fault: Fault,
+    pub place: u16,
+}
+
+impl Fault {
+    // The paper's number of a fault: a table, as `number_of` is, which document 01 asks for.
+    #[tactic(auto, unfolding(crate::specs::Faults::number_of))]
+    pub fn number(self) -> u8
+        ensures { result ≡ number_of self }
+    {
+        match self {
+            Fault::Ended => 11,
+            Fault::Unknown => 12,
+            Fault::Misplaced => 13,
+            Fault::Range => 14,
+            Fault::Disorder => 15,
+            Fault::Excess => 16,
+            Fault::Unmapped => 17,
+        }
     }
 }

@@ -1,10 +1,12 @@
 // The walk: the sheet is read record by record from its front, and the first fault is told with its place.
-ghost use Rattle.std.specs.Prelude.{◌≡◌, ℕ, ◌≤◌, ◌<◌, ◌-◌, length, drop};
+ghost use Rattle.std.specs.Prelude.{◌≡◌, ℕ, ◌≤◌, ◌<◌, ◌-◌, eqb, length, get_or, drop};
+ghost use Rattle.octets.specs.Pick.{pick};
 ghost use Rattle.sheet.specs.Sound.{Standing};
 ghost use Rattle.sheet.specs.Handed.{counts_number, failed_number, fault_of, tells, failed_at};
-ghost use Rattle.sheet.specs.Walk.{counts, form_of, tolerance_in, release_in, layout_of, ended_of, walk_of, verdict_of};
+ghost use Rattle.sheet.specs.Walk.{counts, form_of, layout_of, ended_of, walk_of, verdict_of};
 
-use crate::records::{Counts, Fault, Reading};
+use crate::reading::Unread;
+use crate::records::{Counts, Fault, Flaw, Record};
 
 // The types of PDU. A sheet picks one by the kind of its first record.
 #[derive(Clone, Copy)]
@@ -14,6 +16,7 @@ pub enum Form {
 }
 
 // The type that a link record's kind picks.
+#[tactic(auto, using(crate::proofs::Picks::picks), unfolding(crate::specs::Walk::form_of))]
 fn form_of(kind: u8) -> Form
     ensures { result ≡ form_of kind }
 {
@@ -41,46 +44,26 @@ pub struct Layout {
     pub memory: u32,
 }
 
-// A valid sheet with its layout, or the first fault with its place.
-#[derive(Clone, Copy)]
-pub enum Verdict {
-    Valid(Layout),
-    Faulty(Fault, u16),
-}
-
-// The failures in a row that a sheet tolerates: what its record behind the items says, and none without it.
-fn tolerance_in(sheet: &[u8], so: Counts) -> u8
-    ensures { result ≡ tolerance_in sheet.now so }
+// What the one record of a kind says with its one octet, and what holds without it.
+#[tactic(auto, using(crate::proofs::Picks::picks))]
+fn said(sheet: &[u8], count: u8, at: usize, without: u8) -> u8
+    ensures { result ≡ pick (eqb count 0) without (get_or sheet.now at 0) }
 {
-    if so.tolerances == 0 {
-        return 0;
+    if count == 0 {
+        return without;
     }
-    octets::octet(
-        sheet,
-        5 + 10 * (so.regions as usize) + 8 * (so.parameters as usize) + 35 * (so.items as usize),
-    )
+    octets::octet(sheet, at)
 }
 
-// The release of the drive rules that a sheet picks: what its last record says, and 1 without it.
-fn release_in(sheet: &[u8], so: Counts) -> u8
-    ensures { result ≡ release_in sheet.now so }
-{
-    if so.releases == 0 {
-        return 1;
-    }
-    octets::octet(
-        sheet,
-        5 + 10 * (so.regions as usize)
-            + 8 * (so.parameters as usize)
-            + 35 * (so.items as usize)
-            + 2 * (so.tolerances as usize),
-    )
-}
-
-// The layout of a sheet whose records were counted.
+// The layout of a sheet whose records were counted: no failure in a row is tolerated without a record of that, and the drive rules have release 1 without one.
+#[tactic(auto, unfolding(crate::specs::Walk::layout_of, crate::specs::Walk::tolerance_in, crate::specs::Walk::release_in))]
 fn laid_out(sheet: &[u8], so: Counts) -> Layout
     ensures { result ≡ layout_of sheet.now so }
 {
+    let behind_items = 5
+        + 10 * (so.regions as usize)
+        + 8 * (so.parameters as usize)
+        + 35 * (so.items as usize);
     Layout {
         form: form_of(octets::octet(sheet, 0)),
         l: octets::octet(sheet, 1),
@@ -90,9 +73,14 @@ fn laid_out(sheet: &[u8], so: Counts) -> Layout
         parameters: so.parameters,
         items: so.items,
         tolerances: so.tolerances,
-        tolerance: tolerance_in(sheet, so),
+        tolerance: said(sheet, so.tolerances, behind_items, 0),
         releases: so.releases,
-        release: release_in(sheet, so),
+        release: said(
+            sheet,
+            so.releases,
+            behind_items + 2 * (so.tolerances as usize),
+            1,
+        ),
         memory: so.memory,
     }
 }
@@ -119,17 +107,17 @@ fn failed(fault: Fault, place: usize) -> u64
     requires { place ≤ 65535 }
     ensures { result ≡ failed_number fault place }
 {
-    place as u64 + FAULT_FROM * (crate::records::fault_number(fault) as u64)
+    place as u64 + FAULT_FROM * (fault.number() as u64)
 }
 
 // The fault of a reading that is no record, with its place: taken apart here, since an `else` binds nothing.
-fn fault_at(read: Reading, place: usize) -> u64
+fn fault_at(read: Result<Record, Fault>, place: usize) -> u64
     requires { place ≤ 65535 }
     ensures { result ≡ failed_at read place }
 {
     match read {
-        Reading::Bad(fault) => failed(fault, place),
-        Reading::Record(_, _) => failed(Fault::Ended, place),
+        Err(fault) => failed(fault, place),
+        Ok(_) => failed(Fault::Ended, place),
     }
 }
 
@@ -145,7 +133,7 @@ fn ended(sheet: &[u8], at: usize, so: Counts) -> u64
     counted(so)
 }
 
-// From one record to the next: it calls itself on the part behind the record just read, which it is told by the place where that part begins, and by the
+// From one record to the next: as document 01 has it, it calls itself on the part behind the record just read, which it is told by the place where that part begins, and by the
 // counts one by one, since a struct of more than eight octets would be handed on in memory.
 fn walk(
     whole: &&[u8],
@@ -170,16 +158,18 @@ fn walk(
         releases,
         memory,
     };
-    let read = crate::reading::read_record(sheet, rest, so);
-    let Reading::Record(size, next) = read else {
+    let unread = Unread { sheet, rest, so };
+    let read = unread.read_record();
+    let Ok(record) = read else {
         return fault_at(read, at);
     };
     if octets::octet(rest, 0) == 0 {
         return ended(sheet, at, so);
     }
+    let next = record.counts;
     walk(
         whole,
-        at + size as usize,
+        at + record.size as usize,
         next.regions,
         next.parameters,
         next.items,
@@ -189,7 +179,7 @@ fn walk(
     )
 }
 
-// The fault of a paper's number; a number that is none counts as the last.
+// The fault of a paper's number in the walk's; a number that is none counts as the last.
 fn fault_of(number: u8) -> Fault
     ensures { result ≡ fault_of number }
 {
@@ -205,12 +195,12 @@ fn fault_of(number: u8) -> Fault
 }
 
 // The verdict that the walk's number tells.
-fn told(sheet: &[u8], walked: u64) -> Verdict
+fn told(sheet: &[u8], walked: u64) -> Result<Layout, Flaw>
     ensures { result ≡ tells sheet.now walked }
 {
     let number = (walked / FAULT_FROM) as u8;
     if number == 0 {
-        return Verdict::Valid(laid_out(
+        return Ok(laid_out(
             sheet,
             Counts {
                 regions: (walked % 256) as u8,
@@ -222,15 +212,21 @@ fn told(sheet: &[u8], walked: u64) -> Verdict
             },
         ));
     }
-    Verdict::Faulty(fault_of(number), (walked % 65536) as u16)
+    Err(Flaw {
+        fault: fault_of(number),
+        place: (walked % 65536) as u16,
+    })
 }
 
 // The verdict on a sheet of any octets.
-pub fn check(sheet: &[u8]) -> Verdict
+pub fn check(sheet: &[u8]) -> Result<Layout, Flaw>
     ensures { result ≡ verdict_of sheet.now }
 {
     if 2048 < sheet.len() {
-        return Verdict::Faulty(Fault::Ended, 0);
+        return Err(Flaw {
+            fault: Fault::Ended,
+            place: 0,
+        });
     }
     told(sheet, walk(&sheet, 0, 0, 0, 0, 0, 0, 0))
 }

@@ -1,6 +1,7 @@
 -- A state record from exchange to exchange.
 --     its_fields   a valid record holds its fields
 --     runs_on      an exchange that nothing refuses leaves a state for the next
+use Rattle.std.specs.Prelude.{Ok}
 use mathlib.Core.List.{List}
 use mathlib.Core.Path.{◌≡◌, sym, subst, ◌∙◌}
 use Prim.Native.Nat.{ℕ}
@@ -14,13 +15,12 @@ use Rattle.machine.proofs.Nexts.{outcome_valid, outcome_on}
 use Rattle.sheet.proofs.Valid.{tolerance_small}
 use Rattle.sheet.specs.Walk.{verdict_of}
 use Rattle.sheet.specs.declared.walk.Layout.{Layout}
-use Rattle.sheet.specs.declared.walk.Verdict.TheVariants.{Valid}
 use Rattle.slave.specs.Exchange.{outcome_for, exchanged, Running}
 
 pub its_fields : (state : List ℕ) (lay : Layout) (st x : LinkState) → Running state lay st → x ≡ fields_of state → Running state lay x
 its_fields state lay st x r e = subst (λ (y : LinkState). Running state lay y) (sym (e ∙ read_fields state lay.l lay.tolerance st r.held)) r
 
-pub runs_on : (sheet state memory command : List ℕ) (lay : Layout) (st : LinkState) → verdict_of sheet ≡ Valid lay → Running state lay st
+pub runs_on : (sheet state memory command : List ℕ) (lay : Layout) (st : LinkState) → verdict_of sheet ≡ Ok lay → Running state lay st
     → Running (exchanged sheet lay st memory command).state lay (outcome_for sheet lay st command).next
 unfolding exchanged
 runs_on sheet state memory command lay st v r =

@@ -1,24 +1,26 @@
--- The search for the first octet that is not what is wanted, turn by turn.
---     differs_self                             a reply differs nowhere from itself
---     differs_most                             no octet differs past what is wanted
---     differs_not, differs_here, differs_end   the turns of a search that stops there
---     begins_next, begins_end                  the turns of one that goes through all octets
---     wanted_nothing                           where nothing is wanted, an outcome is left whole
-use mathlib.Core.Bool.{true, ◌&&◌}
+-- The first octet that is not what is wanted.
+--     differs_self       a reply differs nowhere from itself
+--     differs_most       no octet differs past what is wanted
+--     differs_behind     a reply that begins with what is wanted differs behind it
+--     differs_first      the first pair that differs is at that octet
+--     wanted_nothing     where nothing is wanted, an outcome is left whole
+use mathlib.Core.Bool.{not}
 use mathlib.Core.Logic.{⊎_elim}
-use mathlib.Core.Path.{◌≡◌, refl, ap, ◌∙◌}
-use mathlib.Core.List.{List, [], ◌∷◌}
-use Prim.Native.Nat.{ℕ, suc, ◌+◌, ◌<◌, ◌≤◌}
-use native.Mathlib.Nat.{add-zero, le_refl}
-use native.Mathlib.Numerals.{add-one}
+use mathlib.Core.Path.{◌≡◌, refl, sym, ap, ◌∙◌}
+use mathlib.Core.List.{List, [], ◌∷◌, ◌++◌}
+use Prim.Native.Nat.{ℕ, suc, ◌+◌, ◌≤◌}
+use native.Mathlib.Nat.{le_refl}
+use native.Mathlib.Numerals.{one-add}
 use native.Mathlib.Omega.{arith}
-use borrow.Author.Tests.{eq-eqb, ne_eqb}
+use borrow.Author.Tests.{eq-eqb, ne_eqb, lt-ltb, le-ltb}
 use lib.Dec.{eqb}
-use lib.ListN.{length, get_or, drop, drop_of_length-le}
-use lib.Seq.{drop-cons}
+use lib.ListN.{length, take, length-take}
+use Rattle.std.proofs.lemmas.Slice.Zip.{length-zip}
 use Rattle.octets.specs.Pick.{pick}
-use Rattle.octets.proofs.Cases.{eq_or_ne}
+use Rattle.octets.proofs.Cases.{eq_or_ne, lt_or_le}
 use Rattle.octets.proofs.Pick.{pick_yes, pick_no, pick_eq, pick_both}
+use Rattle.std.specs.List.{position_or_len, position, zip}
+use Rattle.std.specs.Option.{unwrap_or}
 use Rattle.slave.specs.Exchange.{Left}
 use Rattle.slave.specs.Wanted.{differs_at, stepped, stepped_of}
 
@@ -39,35 +41,40 @@ unfolding differs_at
 differs_nowhere [] = refl
 differs_nowhere (x ∷ xs) = refl
 
-module _ (xs ys : List ℕ) (i : ℕ) (h : i < length xs) (k : i < length ys) where
-  opened : differs_at (drop i xs) (drop i ys) ≡ pick (eqb (get_or xs i 0) (get_or ys i 0)) (suc (differs_at (drop (i + 1) xs) (drop (i + 1) ys))) 0
-  unfolding differs_at
-  opened = rw (add-one, drop-cons xs i 0 h, drop-cons ys i 0 k)
+pub differs_behind : (xs ys : List ℕ) → differs_at (xs ++ ys) xs ≡ length xs
+unfolding differs_at
+differs_behind [] ys = differs_nowhere ys
+differs_behind (x ∷ xs) ys = pick_yes _ _ (eq-eqb x x refl) ∙ ap suc (differs_behind xs ys)
 
-  pub differs_not : get_or xs i 0 ≡ get_or ys i 0 → i + differs_at (drop i xs) (drop i ys) ≡ i + 1 + differs_at (drop (i + 1) xs) (drop (i + 1) ys)
-  differs_not e =
-      let o = opened ∙ pick_yes _ _ (eq-eqb _ _ e) in
-      omega arith
+-- the pairs before the first that differs are those that are the same
+differs_pairs : (xs ys : List ℕ) → position_or_len (λ (p : ℕ × ℕ). not (eqb p.0 p.1)) (zip xs ys) ≡ differs_at xs ys
+unfolding differs_at
+differs_pairs [] ys = refl
+differs_pairs (x ∷ xs) [] = refl
+differs_pairs (x ∷ xs) (y ∷ ys) =
+    ⊎_elim
+    (λ e. rw (eq-eqb x y e, differs_pairs xs ys, one-add) (sym (pick_yes _ _ refl)))
+    (λ n. rw (ne_eqb x y n) (sym (pick_no _ _ refl)))
+    (eq_or_ne x y)
 
-  pub differs_here : (get_or xs i 0 ≡ get_or ys i 0 → ⊥) → i + differs_at (drop i xs) (drop i ys) ≡ i
-  differs_here n =
-      let o = opened ∙ pick_no _ _ (ne_eqb _ _ n) in
-      omega arith
+-- an octet behind what is wanted is not looked at
+differs_taken : (xs ys : List ℕ) → differs_at (take (length ys) xs) ys ≡ differs_at xs ys
+unfolding differs_at
+differs_taken [] [] = refl
+differs_taken [] (y ∷ ys) = refl
+differs_taken (x ∷ xs) [] = refl
+differs_taken (x ∷ xs) (y ∷ ys) = ap (λ (n : ℕ). pick (eqb x y) (suc n) 0) (differs_taken xs ys)
 
-  pub begins_next : eqb (i + differs_at (drop i xs) (drop i ys)) (length ys)
-      ≡ eqb (get_or xs i 0) (get_or ys i 0) && eqb (i + 1 + differs_at (drop (i + 1) xs) (drop (i + 1) ys)) (length ys)
-  begins_next =
-      ⊎_elim
-      (λ e. rw (eq-eqb (get_or xs i 0) (get_or ys i 0) e) (ap (λ (n : ℕ). eqb n (length ys)) (differs_not e)))
-      (λ n. rw (ne_eqb (get_or xs i 0) (get_or ys i 0) n) (ap (λ (m : ℕ). eqb m (length ys)) (differs_here n) ∙ ne_eqb i (length ys) (λ e. let z : ⊥ = omega arith in z)))
-      (eq_or_ne (get_or xs i 0) (get_or ys i 0))
-
-module _ (xs ys : List ℕ) (i : ℕ) (h : length ys ≤ i) where
-  pub differs_end : i + differs_at (drop i xs) (drop i ys) ≡ i
-  differs_end = rw (drop_of_length-le ys h, differs_nowhere (drop i xs)) (add-zero i)
-
-  pub begins_end : i ≤ length ys → eqb (i + differs_at (drop i xs) (drop i ys)) (length ys) ≡ true
-  begins_end k = eq-eqb _ (length ys) (let e = differs_end in omega arith)
+-- where none of as many pairs as are wanted differs, the first that does is behind them
+pub differs_first : (xs ys : List ℕ) → length ys ≤ length xs
+    → unwrap_or (position (λ (p : ℕ × ℕ). not (eqb p.0 p.1)) (zip (take (length ys) xs) ys)) (length ys) ≡ differs_at xs ys
+differs_first xs ys h =
+    let d = differs_pairs (take (length ys) xs) ys ∙ differs_taken xs ys in
+    let n : length (zip (take (length ys) xs) ys) ≡ length ys = omega (arith, length-zip (take (length ys) xs) ys, length-take (length ys) xs) in
+    ⊎_elim
+    (λ u. rw (d, n, lt-ltb (differs_at xs ys) (length ys) u))
+    (λ u. rw (d, n, le-ltb (differs_at xs ys) (length ys) u) (let m = differs_most xs ys in omega arith))
+    (lt_or_le (differs_at xs ys) (length ys))
 
 pub wanted_nothing : (state memory : List ℕ) (x : Left) → stepped_of 0 state memory [] x ≡ stepped 0 x.state x.memory
 unfolding stepped_of

@@ -1,6 +1,7 @@
 -- Whatever the machine does, it fits: the data into the PDU, the span into the memory, an item's octets into the sheet.
+use Rattle.std.specs.Prelude.{Option, None, Some, Ok, Err}
 use mathlib.Core.Bool.{Bool, true, false}
-use mathlib.Core.Path.{◌≡◌, refl, sym, ap, subst, subst₂, ◌∙◌}
+use mathlib.Core.Path.{◌≡◌, refl, ap, ◌∙◌}
 use mathlib.Core.List.{List}
 use Prim.Native.Nat.{ℕ, ◌+◌, ◌-◌, ◌*◌, ◌≤◌}
 use native.Mathlib.Nat.{le_refl}
@@ -20,8 +21,6 @@ use Rattle.machine.specs.declared.words.Carrier.{Carrier}
 use Rattle.machine.specs.declared.words.Carrier.TheVariants.{Parameter as ByParameter, Memory as ByMemory}
 use Rattle.machine.specs.declared.words.Command.{Command}
 use Rattle.machine.specs.declared.words.Effect.TheVariants.{Quiet}
-use Rattle.machine.specs.declared.words.Judgement.{Judgement}
-use Rattle.machine.specs.declared.words.Judgement.TheVariants.{Refused, Accepted}
 use Rattle.machine.specs.declared.words.Outcome.{Outcome}
 use Rattle.regions.specs.Region.{regions_of}
 use Rattle.regions.specs.Search.{place_in, before_of, span_has, span_place}
@@ -29,17 +28,19 @@ use Rattle.regions.specs.declared.Right.TheVariants.{Mapped}
 use Rattle.regions.proofs.Places.{mapped_spot, span_inside}
 use Rattle.regions.proofs.Spans.{all_before, span_mapped}
 use Rattle.sheet.specs.Entries.{parameters_of, items_of, sought_parameter, sought_item}
-use Rattle.sheet.specs.declared.entries.SoughtItem.{SoughtItem}
-use Rattle.sheet.specs.declared.entries.SoughtParameter.{SoughtParameter}
 use Rattle.sheet.specs.declared.walk.Form.{Form}
 use Rattle.sheet.specs.declared.walk.Layout.{Layout}
+use Rattle.sheet.specs.Walk.{verdict_of}
 use Rattle.sheet.proofs.Valid.{ValidSheet, valid_apart, valid_parameter, valid_item, valid_sheet, item_inside, length_least, length_short}
 use Rattle.slave.specs.Exchange.{Lent, Ready}
+use Rattle.sheet.specs.declared.entries.Parameter.{Parameter}
+use Rattle.sheet.specs.declared.entries.Item.{Item}
+use Rattle.machine.specs.Judgements.{Judgement}
 
 -- a judgement whose effect fits
-abbrev Fit : Form → Judgement → ℕ → ℕ → ℕ → Type 0
-Fit form (Refused alarm field) l m s = Unit {0}
-Fit form (Accepted effect next) l m s = Fitting form effect l m s
+abbrev Fit : List ℕ → Layout → Judgement → Type 0
+Fit s lay (Err r) = Unit {0}
+Fit s lay (Ok d) = Fitting lay.form d.effect lay.l lay.memory (length s)
 
 moved_fits : (form : Form) (writes : Bool) (by : Carrier) (place n l m s : ℕ) → data_from form by + n ≤ body_end form l → place + n ≤ m
     → Fitting form (moved writes by place n) l m s
@@ -69,45 +70,45 @@ module _ (s : List ℕ) (lay : Layout) (ok : ValidSheet s lay) (st : LinkState) 
 
   -- what has a right is mapped
   granted_fits : (writes : Bool) (by : Carrier) (a n : ℕ) → 1 ≤ n → data_from lay.form by + n ≤ body_end lay.form lay.l
-      → Fit lay.form (granted_of writes (regions_of s lay.regions) by a n st) lay.l lay.memory (length s)
+      → Fit s lay (granted_of writes (regions_of s lay.regions) by a n st)
   unfolding granted_of
   granted_fits writes by a n one room =
       let rs = regions_of s lay.regions in
-      pick_cases (λ (j : Judgement). Fit lay.form j lay.l lay.memory (length s)) _ (λ u. tt)
+      pick_cases (Fit s lay) _ (λ u. tt)
       (λ u.
       moved_fits lay.form writes by (span_place rs a n) n lay.l lay.memory (length s) room
       (span_room a n one (span_mapped rs (right_of writes st.link) a n (not-false _ u))))
 
   span_fits : (writes : Bool) (by : Carrier) (a n : ℕ) → 1 ≤ n → data_from lay.form by + n ≤ body_end lay.form lay.l
-      → Fit lay.form (span_of writes (regions_of s lay.regions) by a n st) lay.l lay.memory (length s)
+      → Fit s lay (span_of writes (regions_of s lay.regions) by a n st)
   unfolding span_of
-  span_fits writes by a n one room = pick_both (λ (j : Judgement). Fit lay.form j lay.l lay.memory (length s)) _ tt (granted_fits writes by a n one room)
+  span_fits writes by a n one room = pick_both (Fit s lay) _ tt (granted_fits writes by a n one room)
 
-  parameter_found : (writes : Bool) (x : SoughtParameter) → sought_parameter (parameters_of s lay.regions lay.parameters) c.number ≡ x
-      → Fit lay.form (parameter_data writes (regions_of s lay.regions) lay st c x) lay.l lay.memory (length s)
+  parameter_found : (writes : Bool) (x : Option Parameter) → sought_parameter (parameters_of s lay.regions lay.parameters) c.number ≡ x
+      → Fit s lay (parameter_data writes (regions_of s lay.regions) lay st c x)
   unfolding parameter_data
-  parameter_found writes SoughtParameter.Missing e = tt
-  parameter_found writes (SoughtParameter.Found p) e =
+  parameter_found writes None e = tt
+  parameter_found writes (Some p) e =
       let fine = valid_parameter s lay ok c.number p e in
-      pick_cases (λ (j : Judgement). Fit lay.form j lay.l lay.memory (length s)) _ (λ u. tt)
+      pick_cases (Fit s lay) _ (λ u. tt)
       (λ u.
-      pick_cases (λ (j : Judgement). Fit lay.form j lay.l lay.memory (length s)) _ (λ v. tt)
+      pick_cases (Fit s lay) _ (λ v. tt)
       (λ v.
       let same = eqb-true c.size p.size (not-false _ u) in
       let room = ltb-false (lay.l - 8) c.size v in
       let some = fine.some in
       granted_fits writes ByParameter p.address p.size some (parameter_room lay.form p.size lay.l (valid_sized s lay ok) (omega arith))))
 
-  item_found : (x : SoughtItem) → sought_item (items_of s lay.regions lay.parameters lay.items) c.item ≡ x
-      → Fit lay.form (item_data lay st c x) lay.l lay.memory (length s)
+  item_found : (x : Option Item) → sought_item (items_of s lay.regions lay.parameters lay.items) c.item ≡ x
+      → Fit s lay (item_data lay st c x)
   unfolding item_data
-  item_found SoughtItem.Missing e = tt
-  item_found (SoughtItem.Found i) e =
-      pick_cases (λ (j : Judgement). Fit lay.form j lay.l lay.memory (length s)) _ (λ u. tt)
+  item_found None e = tt
+  item_found (Some i) e =
+      pick_cases (Fit s lay) _ (λ u. tt)
       (λ u.
-      pick_cases (λ (j : Judgement). Fit lay.form j lay.l lay.memory (length s)) _ (λ v. tt)
+      pick_cases (Fit s lay) _ (λ v. tt)
       (λ v.
-      pick_cases (λ (j : Judgement). Fit lay.form j lay.l lay.memory (length s)) _ (λ w. tt)
+      pick_cases (Fit s lay) _ (λ w. tt)
       (λ w.
       let none = eqb-false c.count 0 u in
       let some : 1 ≤ c.count = omega arith in
@@ -118,46 +119,45 @@ module _ (s : List ℕ) (lay : Layout) (ok : ValidSheet s lay) (st : LinkState) 
       let inside = item_inside s lay ok c.item i e in
       identifies_fit lay.form lay.l lay.memory (length s) (i.at + c.offset) c.count (valid_sized s lay ok) room (omega arith))))
 
-  memory_fits : (writes : Bool) → Fit lay.form (memory_of writes s lay st c) lay.l lay.memory (length s)
+  memory_fits : (writes : Bool) → Fit s lay (memory_of writes s lay st c)
   unfolding memory_of
   memory_fits writes =
-      pick_both (λ (j : Judgement). Fit lay.form j lay.l lay.memory (length s)) _ tt
-      (pick_cases (λ (j : Judgement). Fit lay.form j lay.l lay.memory (length s)) _ (λ u. tt)
+      pick_both (Fit s lay) _ tt
+      (pick_cases (Fit s lay) _ (λ u. tt)
       (λ u.
-      pick_cases (λ (j : Judgement). Fit lay.form j lay.l lay.memory (length s)) _ (λ v. tt)
+      pick_cases (Fit s lay) _ (λ v. tt)
       (λ v.
       let none = eqb-false (c.count * element_of c.mode) 0 u in
       let some : 1 ≤ c.count * element_of c.mode = omega arith in
       let room = ltb-false (lay.l - 12) (c.count * element_of c.mode) v in
       span_fits writes ByMemory c.address (c.count * element_of c.mode) some (memory_room lay.form (c.count * element_of c.mode) lay.l (valid_sized s lay ok) some room))))
 
-  alarms_told : Fit lay.form (alarms_of lay st c) lay.l lay.memory (length s)
+  alarms_told : Fit s lay (alarms_of lay st c)
   unfolding alarms_of
   alarms_told =
-      pick_cases (λ (j : Judgement). Fit lay.form j lay.l lay.memory (length s)) _ (λ u. tt)
+      pick_cases (Fit s lay) _ (λ u. tt)
       (λ u.
-      pick_both (λ (j : Judgement). Fit lay.form j lay.l lay.memory (length s)) _ tt
+      pick_both (Fit s lay) _ tt
       (alarms_fit lay.form lay.l lay.memory (length s) st.latches.command st.latches.communication (ltb-false lay.l 16 u)))
 
-  clear_fits : Fit lay.form (clear_of st c) lay.l lay.memory (length s)
+  clear_fits : Fit s lay (clear_of st c)
   unfolding clear_of
-  clear_fits = pick_both (λ (j : Judgement). Fit lay.form j lay.l lay.memory (length s)) _ tt quiet
+  clear_fits = pick_both (Fit s lay) _ tt quiet
 
-  connect_fits : Fit lay.form (connect_of lay st c) lay.l lay.memory (length s)
+  connect_fits : Fit s lay (connect_of lay st c)
   unfolding connect_of
   connect_fits =
-      let P : Judgement → Type 0 = λ j. Fit lay.form j lay.l lay.memory (length s) in
-      pick_both P _ tt (pick_both P _ tt (pick_both P _ tt (pick_both P _ tt (connects_fit lay.form lay.l lay.memory (length s) (valid_sized s lay ok)))))
+      pick_both (Fit s lay) _ tt (pick_both (Fit s lay) _ tt (pick_both (Fit s lay) _ tt (pick_both (Fit s lay) _ tt (connects_fit lay.form lay.l lay.memory (length s) (valid_sized s lay ok)))))
 
-  strayed_fits : (j : Judgement) → Fit lay.form j lay.l lay.memory (length s) → Fit lay.form (strayed stray j) lay.l lay.memory (length s)
+  strayed_fits : (j : Judgement) → Fit s lay j → Fit s lay (strayed stray j)
   unfolding strayed
-  strayed_fits (Refused alarm field) f = pick_both (λ (j : Judgement). Fit lay.form j lay.l lay.memory (length s)) _ tt tt
-  strayed_fits (Accepted effect next) f = pick_both (λ (j : Judgement). Fit lay.form j lay.l lay.memory (length s)) _ f tt
+  strayed_fits (Err r) f = pick_both (Fit s lay) _ tt tt
+  strayed_fits (Ok d) f = pick_both (Fit s lay) _ f tt
 
-  judge_fits : Fit lay.form (judge_of s lay st c stray) lay.l lay.memory (length s)
+  judge_fits : Fit s lay (judge_of s lay st c stray)
   unfolding judge_of data_of parameter_of item_of
   judge_fits =
-      let P : Judgement → Type 0 = λ j. Fit lay.form j lay.l lay.memory (length s) in
+      let P = Fit s lay in
       pick_both P _ tt
       (pick_both P _ tt
       (strayed_fits _
@@ -172,29 +172,23 @@ module _ (s : List ℕ) (lay : Layout) (ok : ValidSheet s lay) (st : LinkState) 
       (pick_both P _ quiet
       (pick_both P _ (memory_fits false) (memory_fits true)))))))))))))
 
-  finished_fits : (j : Judgement) → Fit lay.form j lay.l lay.memory (length s) → Fitting lay.form (finished st c j).effect lay.l lay.memory (length s)
+  finished_fits : (j : Judgement) → Fit s lay j → Fitting lay.form (finished st c j).effect lay.l lay.memory (length s)
   unfolding finished
-  finished_fits (Refused alarm field) f = quiet
-  finished_fits (Accepted effect next) f = f
+  finished_fits (Err r) f = quiet
+  finished_fits (Ok d) f = f
 
   pub outcome_fits : Fitting lay.form (outcome_of s lay st c stray).effect lay.l lay.memory (length s)
   unfolding outcome_of
   outcome_fits =
       pick_both (λ (o : Outcome). Fitting lay.form o.effect lay.l lay.memory (length s)) _ quiet (finished_fits (judge_of s lay st c stray) judge_fits)
 
--- on lent lists of the right lengths the effect fits
-pub lent_fits : (sheet memory command reply : List ℕ) (lay : Layout) (st : LinkState) → Lent sheet memory command reply lay
-    → (c : Command) (stray : ℕ) (o : Outcome) (begun : List ℕ) → o ≡ outcome_of sheet lay st c stray → length begun ≡ length reply
-    → (length command ≡ length begun) × Fitting lay.form o.effect (length begun) (length memory) (length sheet)
-lent_fits sheet memory command reply lay st p c stray o begun e l =
-    let ok = valid_sheet sheet lay p.valid in
-    let same : length begun ≡ lay.l = l ∙ p.lent in (
-      p.asked ∙ sym same,
-      subst₂ (λ (x y : ℕ). Fitting lay.form o.effect x y (length sheet)) (sym same) (sym p.whole)
-          (subst (λ (x : Outcome). Fitting lay.form x.effect lay.l lay.memory (length sheet)) (sym e) (outcome_fits sheet lay ok st c stray)),
-    )
+-- on lent lists of the right lengths the effect of what a command comes to fits
+pub lent_fits : (sheet memory command reply : List ℕ) (lay : Layout) (st : LinkState) → verdict_of sheet ≡ Ok lay → Lent memory command reply lay
+    → (c : Command) (stray : ℕ) (o : Outcome) → o ≡ outcome_of sheet lay st c stray
+    → Fitting lay.form o.effect (length reply) (length memory) (length sheet)
+lent_fits sheet memory command reply lay st v p c stray o e =
+    rw (p.lent, p.whole, e) (outcome_fits sheet lay (valid_sheet sheet lay v) st c stray)
 
--- where nothing refuses, the lists are of the right lengths
-pub ready_lent : (sheet state memory command reply : List ℕ) (lay : Layout) (st : LinkState) → Ready sheet state memory command reply lay st
-    → Lent sheet memory command reply lay
-ready_lent sheet state memory command reply lay st p = record { valid = p.valid; whole = p.whole; asked = p.asked; lent = p.lent }
+-- where nothing refuses, the lists have the lengths that a layout says
+pub ready_lent : (state memory command reply : List ℕ) (lay : Layout) (st : LinkState) → Ready state memory command reply lay st → Lent memory command reply lay
+ready_lent state memory command reply lay st p = p.lists

@@ -1,5 +1,5 @@
 -- One exchange, for every input. Document 01, "What each call tells": "Order: sheet, 1, 2, 3, 4, 5"; a refusal writes nothing.
-use Rattle.std.specs.Prelude.{ℕ, not, List, ◌≡◌, eqb, length}
+use Rattle.std.specs.Prelude.{ℕ, not, List, ◌≡◌, eqb, length, Some}
 use Rattle.octets.specs.Pick.{pick}
 use Rattle.frame.specs.Body.{reply_of, memory_after}
 use Rattle.frame.specs.Fields.{command_of}
@@ -7,13 +7,11 @@ use Rattle.frame.specs.Places.{place_of}
 use Rattle.frame.specs.Unnamed.{stray_of}
 use Rattle.link.specs.Stored.{octets_of, state_of}
 use Rattle.link.specs.declared.state.LinkState.{LinkState}
-use Rattle.link.specs.declared.stored.Stored.TheVariants.{State}
 use Rattle.machine.specs.Outcomes.{outcome_of}
 use Rattle.machine.specs.declared.words.Outcome.{Outcome}
 use Rattle.sheet.specs.Walk.{verdict_of}
 use Rattle.sheet.specs.declared.walk.Form.{Form}
 use Rattle.sheet.specs.declared.walk.Layout.{Layout}
-use Rattle.sheet.specs.declared.walk.Verdict.TheVariants.{Valid}
 use Rattle.slave.specs.Answers.{told, on_sheet, on_state}
 use Rattle.slave.specs.declared.answers.Answer.{Answer}
 
@@ -61,20 +59,16 @@ exchange_of sheet state memory command reply =
 
 -- a valid state that is not Disabled: what a replay leans on from record to record
 pub record Running (state : List ℕ) (lay : Layout) (st : LinkState) : Type 0 where
-  pub held : state_of state lay.l lay.tolerance ≡ State st
+  pub held : state_of state lay.l lay.tolerance ≡ Some st
   pub on : st.link ≡ 0 → ⊥
 
--- a valid sheet, and lists of the lengths that it says: what the code that builds a reply leans on
-pub record Lent (sheet memory command reply : List ℕ) (lay : Layout) : Type 0 where
-  pub valid : verdict_of sheet ≡ Valid lay
+-- lists of the lengths that a layout says: what the code that builds a reply leans on
+pub record Lent (memory command reply : List ℕ) (lay : Layout) : Type 0 where
   pub whole : length memory ≡ lay.memory
   pub asked : length command ≡ lay.l
   pub lent : length reply ≡ lay.l
 
--- what holds where nothing refuses: what the code that builds the reply leans on
-pub record Ready (sheet state memory command reply : List ℕ) (lay : Layout) (st : LinkState) : Type 0 where
-  pub valid : verdict_of sheet ≡ Valid lay
-  pub held : state_of state lay.l lay.tolerance ≡ State st
-  pub whole : length memory ≡ lay.memory
-  pub asked : length command ≡ lay.l
-  pub lent : length reply ≡ lay.l
+-- what holds beside a valid sheet where nothing refuses: what the code that performs a command leans on
+pub record Ready (state memory command reply : List ℕ) (lay : Layout) (st : LinkState) : Type 0 where
+  pub held : state_of state lay.l lay.tolerance ≡ Some st
+  pub lists : Lent memory command reply lay

@@ -1,8 +1,10 @@
 // What a call tells: document 01's number, and a place, of a sheet's fault, in a refused command or of a trace. One type serves every call.
 ghost use Rattle.std.specs.Prelude.{◌≡◌};
-ghost use Rattle.slave.specs.Answers.{told, sheet_answer};
+ghost use Rattle.slave.specs.Answers.{told, refusal_answer, sheet_answer};
+ghost use Rattle.slave.specs.declared.answers.Refusal.TheVariants.{Sheet};
 
-use sheet::walk::Verdict;
+use sheet::records::Flaw;
+use sheet::walk::Layout;
 
 #[derive(Clone, Copy)]
 pub struct Answer {
@@ -10,19 +12,55 @@ pub struct Answer {
     pub place: u32,
 }
 
-pub const DONE: u8 = 0;
+// Why a call is refused.
+#[derive(Clone, Copy)]
+pub enum Refusal {
+    Sheet(Flaw),
+    BadState,
+    BadMemory,
+    BadCommand,
+    BadReply,
+    IsDisabled,
+    NotDisabled,
+}
 
-pub const BAD_STATE: u8 = 1;
+impl From<Flaw> for Refusal {
+    ghost from_gives = { λ flaw r. r ≡ Sheet flaw };
 
-pub const BAD_MEMORY: u8 = 2;
+    fn from(flaw: Flaw) -> Refusal {
+        Refusal::Sheet(flaw)
+    }
+}
 
-pub const BAD_COMMAND: u8 = 3;
+// The number and the place of a refusal: a table, as `refusal_answer` is, which document 01 asks for.
+impl From<Refusal> for Answer {
+    ghost from_gives = { λ refusal answer. answer ≡ refusal_answer refusal };
 
-pub const BAD_REPLY: u8 = 4;
+    fn from(refusal: Refusal) -> Answer {
+        match refusal {
+            Refusal::Sheet(flaw) => Answer {
+                number: flaw.fault.number(),
+                place: flaw.place as u32,
+            },
+            Refusal::BadState => plain(1),
+            Refusal::BadMemory => plain(2),
+            Refusal::BadCommand => plain(3),
+            Refusal::BadReply => plain(4),
+            Refusal::IsDisabled => plain(5),
+            Refusal::NotDisabled => plain(6),
+        }
+    }
+}
 
-pub const IS_DISABLED: u8 = 5;
-
-pub const NOT_DISABLED: u8 = 6;
+// The verdict on a sheet as an answer: 0 for a valid one.
+pub fn sheet_answer(verdict: Result<Layout, Flaw>) -> Answer
+    ensures { result ≡ sheet_answer verdict }
+{
+    match verdict {
+        Ok(_) => done(0),
+        Err(flaw) => Answer::from(Refusal::Sheet(flaw)),
+    }
+}
 
 // A number without a place.
 pub fn plain(number: u8) -> Answer
@@ -31,18 +69,9 @@ pub fn plain(number: u8) -> Answer
     Answer { number, place: 0 }
 }
 
-// The verdict on a sheet as an answer: 0 for a valid one.
-pub fn sheet_answer(verdict: Verdict) -> Answer
-    ensures { result ≡ sheet_answer verdict }
+// 0, and where a call tells one the place.
+pub fn done(place: u32) -> Answer
+    ensures { result ≡ told 0 place }
 {
-    match verdict {
-        Verdict::Valid(_) => Answer {
-            number: 0,
-            place: 0,
-        },
-        Verdict::Faulty(fault, place) => Answer {
-            number: sheet::records::fault_number(fault),
-            place: place as u32,
-        },
-    }
+    Answer { number: 0, place }
 }

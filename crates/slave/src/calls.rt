@@ -1,42 +1,33 @@
 // Reset and enable.
 ghost use Rattle.std.specs.Prelude.{◌≡◌};
+ghost use Rattle.slave.specs.Answers.{answered};
 ghost use Rattle.slave.specs.Calls.{after, reset_of, enable_of};
 
-use crate::answers::Answer;
+use crate::answers::Refusal;
 use link::state::LinkState;
-use link::stored::Stored;
-use sheet::walk::Verdict;
 
 // Disabled with the sheet's L and zeros, over eleven octets of any content.
-pub fn reset(sheet: &[u8], state: &mut [u8]) -> Answer
-    ensures { after result state.new ≡ reset_of sheet.now state.old }
+pub fn reset(sheet: &[u8], state: &mut [u8]) -> Result<(), Refusal>
+    ensures { after (answered result) state.new ≡ reset_of sheet.now state.old }
 {
-    let verdict = sheet::walk::check(sheet);
-    let Verdict::Valid(layout) = verdict else {
-        return crate::answers::sheet_answer(verdict);
-    };
+    let layout = sheet::walk::check(sheet)?;
     if state.len() != link::stored::STATE_LENGTH {
-        return crate::answers::plain(crate::answers::BAD_STATE);
+        return Err(Refusal::BadState);
     }
     link::stored::write(state, LinkState::fresh(layout.l));
-    crate::answers::plain(crate::answers::DONE)
+    Ok(())
 }
 
 // Disabled becomes Disconnected.
-pub fn enable(sheet: &[u8], state: &mut [u8]) -> Answer
-    ensures { after result state.new ≡ enable_of sheet.now state.old }
+pub fn enable(sheet: &[u8], state: &mut [u8]) -> Result<(), Refusal>
+    ensures { after (answered result) state.new ≡ enable_of sheet.now state.old }
 {
-    let verdict = sheet::walk::check(sheet);
-    let Verdict::Valid(layout) = verdict else {
-        return crate::answers::sheet_answer(verdict);
-    };
+    let layout = sheet::walk::check(sheet)?;
     let held = link::stored::read(state, layout.l, layout.tolerance);
-    let Stored::State(st) = held else {
-        return crate::answers::plain(crate::answers::BAD_STATE);
-    };
+    let st = held.ok_or(Refusal::BadState)?;
     if st.link != link::state::DISABLED {
-        return crate::answers::plain(crate::answers::NOT_DISABLED);
+        return Err(Refusal::NotDisabled);
     }
     link::stored::write(state, st.enabled());
-    crate::answers::plain(crate::answers::DONE)
+    Ok(())
 }

@@ -1,12 +1,11 @@
 -- What a C host is told: an answer as one number, document 01's number + 2^32 × place.
-use Rattle.std.specs.Prelude.{ℕ, ◌+◌, ◌*◌, List}
+use Rattle.std.specs.Prelude.{ℕ, ◌+◌, ◌*◌, List, Ok, Err}
 use Rattle.difference.specs.Difference.{Listed}
 use Rattle.replay.specs.Replay.{Replayed}
 use Rattle.slave.specs.declared.answers.Answer.{Answer}
-use Rattle.sheet.specs.declared.walk.Verdict.{Verdict}
-use Rattle.sheet.specs.declared.walk.Verdict.TheVariants.{Valid, Faulty}
 use Rattle.slave.specs.Calls.{After}
 use Rattle.slave.specs.Exchange.{Left}
+use Rattle.sheet.specs.Told.{Verdict}
 
 -- the release of the archive: 1 had a state record of ten octets, 2 no short type
 abbrev pub release : ℕ
@@ -41,8 +40,8 @@ left_by_call l = packed_left (packed l.answer) l.state l.memory l.reply
 
 -- the lengths that a host lends: L + 2^32 × memory length, 0 for a refused sheet
 unfoldable pub lengths_of : Verdict → ℕ
-lengths_of (Valid layout) = layout.l + 4294967296 * layout.memory
-lengths_of (Faulty fault place) = 0
+lengths_of (Ok layout) = layout.l + 4294967296 * layout.memory
+lengths_of (Err flaw) = 0
 
 -- what a call of replay leaves behind
 pub record PackedReplay : Type 0 where

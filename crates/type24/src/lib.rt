@@ -4,22 +4,27 @@
 // `t24_version` the release.
 #![tactic(auto)]
 
-ghost use Rattle.std.specs.Prelude.{◌≡◌};
+ghost use Rattle.std.specs.Prelude.{◌≡◌, MatchResult};
 ghost use Rattle.difference.specs.Difference.{difference_of};
 ghost use Rattle.replay.specs.Replay.{replay_of};
 ghost use Rattle.sheet.specs.Walk.{verdict_of};
-ghost use Rattle.slave.specs.Answers.{sheet_answer};
+ghost use Rattle.slave.specs.Answers.{told, sheet_answer};
 ghost use Rattle.slave.specs.Calls.{reset_of, enable_of, turn_of};
 ghost use Rattle.slave.specs.Exchange.{exchange_of};
+ghost use Rattle.slave.specs.declared.answers.Answer.{Answer};
 ghost use Rattle.type24.specs.Packed.{release, packed, packed_after, after_call, packed_left, left_by_call, lengths_of, packed_replay, by_replay, packed_list, by_difference};
 
-use sheet::walk::Verdict;
-use slave::answers::Answer;
+use slave::answers::{Answer, Refusal};
 
-fn pack(answer: Answer) -> u64
-    ensures { result ≡ packed answer }
+// What a call comes to as one number: 0 with the place that it tells, or what refuses it.
+fn pack<E: Into<Answer>>(came: Result<u32, E>) -> u64
+    ensures { MatchResult came (λ place. result ≡ packed (told 0 place)) (λ refusal. (answer : Answer) × E.converts refusal answer × (result ≡ packed answer)) }
 {
-    answer.number as u64 + 4294967296 * (answer.place as u64)
+    let answer = match came {
+        Ok(place) => slave::answers::done(place),
+        Err(refusal) => refusal.into(),
+    };
+    u64::from(answer.number) + 4294967296 * u64::from(answer.place)
 }
 
 // The release of this archive, which the header has too: it goes up where a host with the old header would lend or read otherwise.
@@ -32,10 +37,11 @@ pub extern "C" fn t24_version() -> u64
 
 // The verdict on a sheet: 0, or a fault with its place.
 #[unsafe(no_mangle)]
+#[tactic(auto, unfolding(slave::specs::Answers::sheet_answer))]
 pub extern "C" fn t24_sheet(sheet: &[u8]) -> u64
     ensures { result ≡ packed (sheet_answer (verdict_of sheet.now)) }
 {
-    pack(slave::answers::sheet_answer(sheet::walk::check(sheet)))
+    pack(sheet::walk::check(sheet).map(|_| 0).map_err(Refusal::Sheet))
 }
 
 // The lengths that a host lends by a valid sheet: L + 2^32 × memory length; 0 for a refused one.
@@ -44,8 +50,8 @@ pub extern "C" fn t24_lengths(sheet: &[u8]) -> u64
     ensures { result ≡ lengths_of (verdict_of sheet.now) }
 {
     match sheet::walk::check(sheet) {
-        Verdict::Valid(layout) => layout.l as u64 + 4294967296 * (layout.memory as u64),
-        Verdict::Faulty(_, _) => 0,
+        Ok(layout) => u64::from(layout.l) + 4294967296 * u64::from(layout.memory),
+        Err(_) => 0,
     }
 }
 
@@ -53,7 +59,7 @@ pub extern "C" fn t24_lengths(sheet: &[u8]) -> u64
 pub extern "C" fn t24_reset(sheet: &[u8], state: &mut [u8]) -> u64
     ensures { packed_after result state.new ≡ after_call (reset_of sheet.now state.old) }
 {
-    pack(slave::calls::reset(sheet, state))
+    pack(slave::calls::reset(sheet, state).map(|()| 0))
 }
 
 // A state record of release 1 turned into one of today; the old one is only read.
@@ -61,14 +67,14 @@ pub extern "C" fn t24_reset(sheet: &[u8], state: &mut [u8]) -> u64
 pub extern "C" fn t24_turn(sheet: &[u8], old: &[u8], state: &mut [u8]) -> u64
     ensures { packed_after result state.new ≡ after_call (turn_of sheet.now old.now state.old) }
 {
-    pack(slave::turning::turn(sheet, old, state))
+    pack(slave::turning::turn(sheet, old, state).map(|()| 0))
 }
 
 #[unsafe(no_mangle)]
 pub extern "C" fn t24_enable(sheet: &[u8], state: &mut [u8]) -> u64
     ensures { packed_after result state.new ≡ after_call (enable_of sheet.now state.old) }
 {
-    pack(slave::calls::enable(sheet, state))
+    pack(slave::calls::enable(sheet, state).map(|()| 0))
 }
 
 #[unsafe(no_mangle)]
@@ -96,6 +102,7 @@ pub extern "C" fn t24_replay(sheet: &[u8], state: &mut [u8], memory: &mut [u8], 
 // What changed between two sheets: 0 with the length of the list, 28 with the length that it needs, or a fault of the first sheet, or of the second, ten
 // higher, with its place. A refusal writes nothing.
 #[unsafe(no_mangle)]
+#[tactic(auto, unfolding(difference::specs::Answers::entered_answer))]
 pub extern "C" fn t24_difference(first: &[u8], second: &[u8], list: &mut [u8]) -> u64
     ensures { packed_list result list.new ≡ by_difference (difference_of first.now second.now list.old) }
 {

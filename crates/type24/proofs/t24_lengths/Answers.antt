@@ -1,12 +1,12 @@
 -- `t24_lengths` meets its contract, case by case.
-use mathlib.Core.Path.{sym, ap, ◌∙◌}
+use Rattle.std.proofs.Common.{sym}
 use Rattle.type24.specs.Packed.{lengths_of}
 use Rattle.type24.proofs.t24_lengths.Goals as goal
 
-pub returns-in-Valid : goal.returns-in-Valid
+pub returns-in-Ok : goal.returns-in-Ok
 unfolding lengths_of
-returns-in-Valid c = ap lengths_of (sym c.in-Valid.is ∙ c.check.ensures)
+returns-in-Ok c = rw (sym c.in-Ok.ensures, c.from.ensures, c.from-in-Ok.ensures)
 
-pub returns-in-Faulty : goal.returns-in-Faulty
+pub returns-in-Err : goal.returns-in-Err
 unfolding lengths_of
-returns-in-Faulty c = ap lengths_of (sym c.in-Faulty.is ∙ c.check.ensures)
+returns-in-Err c = rw (sym c.in-Err.ensures)

@@ -1,49 +1,16 @@
 -- `difference::entries::changed` meets its contract.
-use mathlib.Core.Path.{ap, ◌∙◌}
-use native.Mathlib.Omega.{arith}
-use Rattle.difference.specs.Entered.{enters}
-use Rattle.difference.proofs.Bounds.{kind_under, size_least, size_most}
-use Rattle.difference.proofs.Entered.{entered_two, entered_none, changed_is, unchanged_is}
+use mathlib.Core.Path.{sym}
+use Rattle.octets.proofs.Pick.{pick_eq, pick_ne}
+use Rattle.difference.specs.Merge.{changed_of}
+use Rattle.difference.proofs.Moves.{moves_none, moves_on, moves_as}
 use Rattle.difference.proofs.entries.changed.Goals as goal
 
 pub returns-then-bits-eq0 : goal.returns-then-bits-eq0
-returns-then-bits-eq0 c =
-    let a = c.args in
-    entered_none a.list.now a.at ∙ ap (enters a.list.now a.at) (unchanged_is a.second.now a.j a.bits c.if-bits-eq0.true)
-
-pub overflow_sub-body : goal.overflow_sub-body
-overflow_sub-body c =
-    let s = size_least c.kind_at-kind.result in
-    omega (arith, c.size-body.ensures, s)
-
-pub overflow_add-kind : goal.overflow_add-kind
-overflow_add-kind c =
-    let a = c.args in
-    let k = kind_under a.second.now a.j in
-    omega (arith, k, c.kind_at-kind.ensures)
-
-pub lay_part-requires : goal.lay_part-requires
-lay_part-requires c =
-    let s = c in
-    let p = s.requires in
-    let w = size_most s.kind_at-kind.result in
-    (omega (arith, p.0), omega (arith, p.1), omega (arith, s.size-body.ensures, w))
-
-pub overflow_add-result-2 : goal.overflow_add-result-2
-overflow_add-result-2 c =
-    let s = c in
-    let p = s.requires in
-    let w = size_most s.kind_at-kind.result in
-    omega (arith, p.0, s.size-body.ensures, w)
+unfolding changed_of
+returns-then-bits-eq0 c = moves_as (sym (pick_eq _ _ c.if-bits-eq0.true)) (moves_none c.args.list.now)
 
 pub returns : goal.returns
+unfolding changed_of
 returns c =
-    let part = c in
-    let two = part in
-    let one = two in
-    let size = one in
-    let test = size in
-    let a = test.args in
-    entered_two a.list.now _ _ _ a.second.now a.at _ _ _ _ one.lay.ensures two.lay-2.ensures part.lay_part.ensures
-    ∙ ap (enters a.list.now a.at)
-    (changed_is a.second.now a.j a.bits _ _ test.if-bits-eq0.false size.kind_at-kind.ensures size.size-body.ensures)
+    moves_as (simp (c.kind.ensures.value, c.body.ensures.value) (sym (pick_ne _ _ c.if-bits-eq0.false)))
+    (moves_on (moves_on c.lay.ensures c.lay-2.ensures) c.lay_part.ensures)

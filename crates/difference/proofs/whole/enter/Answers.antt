@@ -1,68 +1,52 @@
 -- `difference::whole::enter` meets its contract: the first pass lays nothing, and tells how long the list is.
-use Prim.Native.Nat.{ℕ, ◌-◌, ◌<◌, ◌≤◌}
+use Prim.Native.Nat.{ℕ, ◌<◌, ◌≤◌}
 use mathlib.Core.List.{List, [], ◌∷◌, ◌++◌}
 use mathlib.Core.Path.{◌≡◌, refl, sym, ap, ap₂, ◌∙◌}
 use native.Mathlib.Omega.{arith}
-use lib.ListN.{length, take, drop}
+use lib.ListN.{length}
 use Rattle.octets.proofs.Pick.{pick_lt, pick_ge}
 use Rattle.slave.specs.Answers.{told}
+use Rattle.difference.specs.Answers.{refusal_answer, entered_answer}
 use Rattle.difference.specs.Difference.{listed, entered_of}
 use Rattle.difference.specs.Entered.{Entered, entered, enters}
-use Rattle.difference.specs.Laid.{laid}
+use Rattle.difference.specs.Merge.{merge_of}
 use Rattle.difference.proofs.Laid.{laid_whole}
-use Rattle.difference.proofs.Passes.{merge_most}
 use Rattle.difference.proofs.whole.enter.Goals as goal
 
 -- the part of no octets comes back as it was
-none_lent : (d m : List ℕ) → length m ≡ 0 → take 0 d ++ (m ++ drop (0 - 0) (drop 0 d)) ≡ d
-none_lent d [] e = refl
-none_lent d (x ∷ m) e = absurd (omega (arith, e))
+none_lent : (m d : List ℕ) → length m ≡ 0 → m ++ d ≡ d
+none_lent [] d e = refl
+none_lent (x ∷ m) d e = absurd (omega (arith, e))
 
-tells_length : (n : ℕ) (e d os : List ℕ) → entered n e ≡ enters d 0 os → n ≡ length os
+tells_length : (os d e : List ℕ) (n : ℕ) → entered n e ≡ enters d 0 os → n ≡ length os
 unfolding enters
-tells_length n e d os p = let h = ap (λ (x : Entered). x.behind) p in omega (arith, h)
+tells_length os d e n p = let h = ap (λ (x : Entered). x.behind) p in omega (arith, h)
 
-too_long : (os list e : List ℕ) (n : ℕ) → n ≡ length os → e ≡ list → length e < n → listed (told 28 n) e ≡ entered_of os list
+too_long : (os d : List ℕ) (n : ℕ) → n ≡ length os → length d < n → listed (told 28 n) d ≡ entered_of os d
 unfolding entered_of
-too_long os list e n p q h =
-    let l : length list < length os = let r = ap length q in omega (arith, p, r, h) in
-    ap₂ (λ (k : ℕ) (d : List ℕ). listed (told 28 k) d) p q ∙ sym (pick_lt _ _ l)
+too_long os d n e h =
+    let long : length d < length os = omega arith in
+    ap (λ (k : ℕ). listed (told 28 k) d) e ∙ sym (pick_lt _ _ long)
 
-whole : (os list d e : List ℕ) (n m : ℕ) → n ≡ length os → d ≡ list → n ≤ length d → entered m e ≡ enters d 0 os → listed (told 0 m) e ≡ entered_of os list
+whole : (os d e : List ℕ) (n : ℕ) → length os ≤ length d → entered n e ≡ enters d 0 os → listed (told 0 n) e ≡ entered_of os d
 unfolding entered_of enters
-whole os list d e n m p q h r =
-    let room : length os ≤ length list = let l = ap length q in omega (arith, p, l, h) in
-    let long = tells_length m e d os r in
-    let held : e ≡ os ++ drop (length os) list = ap (λ (x : Entered). x.list) r ∙ ap (λ (x : List ℕ). laid x 0 os) q ∙ laid_whole os list room in
-    ap₂ (λ (k : ℕ) (x : List ℕ). listed (told 0 k) x) long held ∙ sym (pick_ge _ _ room)
-
-pub overflow_cast-result : goal.overflow_cast-result
-overflow_cast-result c =
-    let call = c in
-    let s = call in
-    let m = merge_most s.args.first.now s.args.second.now s.requires.0 s.requires.1 in
-    let e = tells_length _ _ _ _ call.merge-needed.ensures in
-    omega (arith, m, e)
+whole os d e n room p =
+    ap₂ (λ (k : ℕ) (x : List ℕ). listed (told 0 k) x) (tells_length os d e n p) (ap (λ (x : Entered). x.list) p ∙ laid_whole os d room)
+    ∙ sym (pick_ge _ _ room)
 
 pub returns-then-list-needed : goal.returns-then-list-needed
+unfolding entered_answer refusal_answer
 returns-then-list-needed c =
-    let call = c in
-    let a = call.args in
-    too_long _ a.list.now _ _ (tells_length _ _ _ _ call.merge-needed.ensures) (none_lent a.list.now call.merge-needed.new.list call.merge-needed.auto.list) c.if-list-needed.true
-
-pub overflow_cast-result-2 : goal.overflow_cast-result-2
-overflow_cast-result-2 c =
-    let call = c in
-    let s = call in
-    let m = merge_most s.args.first.now s.args.second.now s.requires.0 s.requires.1 in
-    let e = tells_length _ _ _ _ call.merge-length.ensures in
-    omega (arith, m, e)
+    let lent = none_lent c.merge-needed.new.list c.args.list.now c.merge-needed.auto.list in
+    let long = tells_length _ _ _ _ c.merge-needed.ensures in
+    rw lent (too_long _ _ _ long (omega (arith, ap length lent)))
 
 pub returns : goal.returns
+unfolding entered_answer
 returns c =
-    let last = c in
-    let test = last in
-    let first = test in
-    let a = first.args in
-    whole _ a.list.now _ _ _ _ (tells_length _ _ _ _ first.merge-needed.ensures) (none_lent a.list.now first.merge-needed.new.list first.merge-needed.auto.list) test.if-list-needed.false
-    last.merge-length.ensures
+    let a = c.args in
+    let os = merge_of a.first.now a.second.now in
+    let lent = none_lent c.merge-needed.new.list a.list.now c.merge-needed.auto.list in
+    let long = tells_length os _ _ _ c.merge-needed.ensures in
+    let room : length os ≤ length a.list.now = omega (arith, long, ap length lent) in
+    whole os a.list.now _ _ room (c.merge-length.ensures ∙ ap (λ (d : List ℕ). enters d 0 os) lent)

@@ -1,5 +1,5 @@
 -- `replay::form::command_of` meets its contract: the part that is lent is the record's command.
-use Prim.Native.Nat.{◌+◌}
+use Rattle.std.proofs.Common.{◌+◌}
 use Rattle.replay.specs.Trace.{command_at}
 use Rattle.replay.proofs.Steps.{cut_part}
 use Rattle.replay.proofs.form.command_of.Goals as goal

@@ -1,5 +1,5 @@
 -- `replay::form::reply_of` meets its contract: the part that is lent is the record's reply.
-use Prim.Native.Nat.{◌+◌}
+use Rattle.std.proofs.Common.{◌+◌}
 use native.Mathlib.Omega.{arith}
 use Rattle.replay.specs.Trace.{reply_at}
 use Rattle.replay.proofs.Steps.{cut_part}

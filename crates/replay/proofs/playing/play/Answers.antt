@@ -1,130 +1,100 @@
 -- `replay::playing::play` meets its contract: the k records passed agree, and m records are left.
-use Prim.Native.Nat.{ℕ}
-use mathlib.Core.List.{List}
-use mathlib.Core.Path.{refl, sym, ap, subst, ◌∙◌}
-use native.Mathlib.Omega.{arith}
-use lib.ListN.{length}
+use Rattle.std.proofs.Common.{ℕ, ◌+◌, ◌*◌, List, length, refl, sym, ap, subst, ◌∙◌, arith}
+use Rattle.std.proofs.Math.Nat.{le_refl}
 use Rattle.link.specs.declared.state.LinkState.{LinkState}
 use Rattle.sheet.proofs.Valid.{valid_sheet, length_least}
 use Rattle.slave.specs.Exchange.{Running}
-use Rattle.slave.specs.Wanted.{stepped, Performed}
-use Rattle.replay.specs.Replay.{play_of}
-use Rattle.replay.specs.Trace.{record_size}
-use Rattle.replay.proofs.Plays.{command_whole, reply_whole, play_differs, play_agrees, play_end, one_more, one_whole, traced_all}
+use Rattle.slave.specs.Wanted.{Stepped, stepped, Performed}
+use Rattle.slave.specs.Answers.{told}
+use Rattle.replay.specs.Replay.{replayed, play_of}
+use Rattle.replay.specs.Trace.{record_size, command_at, reply_at}
+use Rattle.replay.proofs.Plays.{Handed, one_handed, play_differs, play_agrees, play_end, one_more, traced_all}
 use Rattle.replay.proofs.Steps.{step_runs}
 use Rattle.replay.proofs.playing.play.Goals as goal
+use Rattle.replay.proofs.playing.play.Goals.{After-reply-theirs}
 
-pub loop-at-init : goal.loop-at-init
-loop-at-init c =
+pub loop-reader-init : goal.loop-reader-init
+loop-reader-init c =
     let a = c.args in
-    let n = c.requires.4 in (
-      omega arith,
+    let d = a.checked.now.device in
+    let n = c.requires.records in (
       refl,
       refl,
       refl,
-      (
-        n.0,
-        (let e = n.1 in omega arith),
-        ap (play_of a.sheet.now a.layout.l 0 a.state.now a.memory.now) (traced_all a.layout.l n.0 a.trace.now n.1),
-      ),
-      c.requires.5,
+      rw c.open-reader.ensures (record {
+        same = refl;
+        of_sheet = refl;
+        few = omega arith;
+        stands = c.requires.stands;
+        m = n.many;
+        left = omega (arith, n.whole);
+        told = ap (play_of d.sheet.now d.layout.l 0 a.state.now a.memory.now) (traced_all d.layout.l n.many a.trace.now n.whole);
+      }),
     )
 
-pub command_at-command-requires : goal.command_at-command-requires
-command_at-command-requires c =
-    let a = c.args in
-    let l = c.loop-at in
-    one_whole (length a.trace.now) l.at l.invariant.4.0 (record_size a.layout.l) l.invariant.4.1 c.loop-at-test.true
+-- the record at the reader's place is the trace's
+handed : (c : After-reply-theirs) → Handed c.args.checked.now.device.layout.l c.args.trace.now c.loop-reader.reader.at c.command-command.result.now c.reply-theirs.result.now
+handed c =
+    let l = c.loop-reader in
+    let p = l.invariant.3 in
+    one_handed _ _ _ p.m p.left c.loop-reader-test.true
+    (c.command-command.ensures ∙ (λ i. command_at (p.of_sheet i) (p.same i) l.reader.at))
+    (c.reply-theirs.ensures ∙ (λ i. reply_at (p.of_sheet i) (p.same i) l.reader.at))
 
-pub reply_at-theirs-requires : goal.reply_at-theirs-requires
-reply_at-theirs-requires c =
-    let a = c.args in
-    let l = c.loop-at in
-    one_whole (length a.trace.now) l.at l.invariant.4.0 (record_size a.layout.l) l.invariant.4.1 c.loop-at-test.true
+pub one-requires-clause-command : goal.one-requires-clause-command
+one-requires-clause-command c = (handed (goal.at.one-requires-clause-command c).After-reply-theirs).asked
 
-pub one-d-requires : goal.one-d-requires
-one-d-requires c =
+pub one-requires-clause-theirs : goal.one-requires-clause-theirs
+one-requires-clause-theirs c = (handed (goal.at.one-requires-clause-theirs c).After-reply-theirs).lent
+
+pub returns-in-Some : goal.returns-in-Some
+returns-in-Some c =
     let a = c.args in
-    let p = c.requires in
-    let l = c.loop-at in
-    let w = one_whole (length a.trace.now) l.at l.invariant.4.0 (record_size a.layout.l) l.invariant.4.1 c.loop-at-test.true in (
-      p.0,
-      l.invariant.2 ∙ p.1,
-      l.invariant.3 ∙ p.2,
-      ap (λ (s : List ℕ). length s) c.command_at-command.ensures ∙ command_whole a.layout.l a.trace.now l.at w,
-      ap (λ (s : List ℕ). length s) c.reply_at-theirs.ensures ∙ reply_whole a.layout.l a.trace.now l.at w,
-      l.invariant.5,
+    let d = a.checked.now.device in
+    let l = c.loop-reader in
+    let p = l.invariant.3 in
+    let o = c.one.new in
+    let e = c.in-Some.ensures in
+    let q = one_more (length a.trace.now) l.reader.at p.m (record_size d.layout.l) p.left c.loop-reader-test.true in
+    ap (λ (n : ℕ). replayed (told 34 (64 * l.k + n)) o.state o.memory) c.from.ensures
+    ∙ sym
+    (p.told
+    ∙ play_differs d.sheet.now a.trace.now d.layout.l l.k l.reader.at l.state l.memory (stepped c.in-Some.octet o.state o.memory) q.1
+    (handed (goal.at.returns-in-Some c).After-reply-theirs) (ap (λ (y : Performed). y.step) e.leaves) e.differs)
+
+pub loop-reader-preserved : goal.loop-reader-preserved
+loop-reader-preserved c =
+    let a = c.args in
+    let d = a.checked.now.device in
+    let l = c.loop-reader in
+    let p = l.invariant.3 in
+    let o = c.one in
+    let h = handed (goal.at.loop-reader-preserved c).After-reply-theirs in
+    let q = one_more (length a.trace.now) l.reader.at p.m (record_size d.layout.l) p.left c.loop-reader-test.true in
+    let step = ap (λ (y : Performed). y.step) c.in_default.ensures.leaves in
+    let least = length_least _ _ (valid_sheet _ _ a.checked.now.valid) in
+    let runs = step_runs d.sheet.now l.state l.memory _ _ d.layout a.checked.now.valid p.stands.st p.stands.running p.stands.whole h.asked h.lent in
+    let run = subst (λ (s : List ℕ). (st : LinkState) × Running s d.layout st) (sym (ap (λ (x : Stepped). x.state) step)) runs in (
+      o.auto.state ∙ l.invariant.0,
+      o.auto.memory ∙ l.invariant.1,
+      o.auto.room ∙ l.invariant.2,
+      rw c.moved-reader.ensures (record {
+        same = p.same;
+        of_sheet = p.of_sheet;
+        few = omega (arith, p.few, p.of_sheet);
+        stands = record { whole = o.auto.memory ∙ p.stands.whole; st = run.0; running = run.1 };
+        m = q.0;
+        left = omega (arith, q.2, p.of_sheet);
+        told = p.told
+            ∙ play_agrees d.sheet.now a.trace.now d.layout.l l.k l.reader.at l.state l.memory (stepped d.layout.l o.new.state o.new.memory) q.1 h step (le_refl d.layout.l)
+            (ap (λ (n : ℕ). l.reader.at + record_size n) p.of_sheet);
+      }),
     )
-
-pub overflow_mul-result : goal.overflow_mul-result
-overflow_mul-result c = omega (arith, c.loop-at.invariant.0, c.requires.3)
-
-pub overflow_add-result : goal.overflow_add-result
-overflow_add-result c = omega (arith, c.loop-at.invariant.0, c.requires.3)
-
-pub shape_of-state-then-d-layout : goal.shape_of-state-then-d-layout
-shape_of-state-then-d-layout c = c.one-d.auto.state ∙ c.loop-at.invariant.1
-
-pub shape_of-memory-then-d-layout : goal.shape_of-memory-then-d-layout
-shape_of-memory-then-d-layout c = c.one-d.auto.memory ∙ c.loop-at.invariant.2
-
-pub shape_of-room-then-d-layout : goal.shape_of-room-then-d-layout
-shape_of-room-then-d-layout c = c.one-d.auto.room ∙ c.loop-at.invariant.3
-
-pub returns-then-d-layout : goal.returns-then-d-layout
-returns-then-d-layout c =
-    let a = c.args in
-    let l = c.loop-at in
-    let o = c.one-d in
-    let q = one_more (length a.trace.now) l.at l.invariant.4.0 (record_size a.layout.l) l.invariant.4.1 c.loop-at-test.true in
-    let x = stepped o.result o.new.state o.new.memory in
-    sym (l.invariant.4.2 ∙ play_differs a.sheet.now a.trace.now a.layout.l l.k l.at l.state l.memory x q.1 c.command_at-command.ensures c.reply_at-theirs.ensures (ap (λ (y : Performed). y.step) o.ensures) c.if-d-layout.true)
-
-pub overflow_add-k : goal.overflow_add-k
-overflow_add-k c = omega (arith, c.loop-at.invariant.0, c.requires.3)
-
-pub behind-at-requires : goal.behind-at-requires
-behind-at-requires c = omega (arith, c.loop-at-test.true, c.requires.3)
-
-pub loop-at-smaller : goal.loop-at-smaller
-loop-at-smaller c = omega (arith, c.loop-at-test.true)
-
-pub loop-at-preserved : goal.loop-at-preserved
-loop-at-preserved c =
-    let a = c.args in
-    let l = c.loop-at in
-    let o = c.one-d in
-    let q = one_more (length a.trace.now) l.at l.invariant.4.0 (record_size a.layout.l) l.invariant.4.1 c.loop-at-test.true in
-    let x = stepped o.result o.new.state o.new.memory in
-    let w = one_whole (length a.trace.now) l.at l.invariant.4.0 (record_size a.layout.l) l.invariant.4.1 c.loop-at-test.true in
-    let runs = step_runs a.sheet.now l.state l.memory _ _ a.layout c.requires.0 l.invariant.5.0 l.invariant.5.1 (l.invariant.2 ∙ c.requires.1)
-    (ap (λ (s : List ℕ). length s) c.command_at-command.ensures ∙ command_whole a.layout.l a.trace.now l.at w)
-    (ap (λ (s : List ℕ). length s) c.reply_at-theirs.ensures ∙ reply_whole a.layout.l a.trace.now l.at w) in
-    let least = length_least a.sheet.now a.layout (valid_sheet a.sheet.now a.layout c.requires.0) in (
-      omega (arith, l.invariant.0),
-      o.auto.state ∙ l.invariant.1,
-      o.auto.memory ∙ l.invariant.2,
-      o.auto.room ∙ l.invariant.3,
-      (
-        q.0,
-        omega (arith, q.2),
-        l.invariant.4.2
-            ∙ play_agrees a.sheet.now a.trace.now a.layout.l l.k l.at l.state l.memory x q.1 c.command_at-command.ensures c.reply_at-theirs.ensures (ap (λ (y : Performed). y.step) o.ensures) c.if-d-layout.false c.behind-at.ensures,
-      ),
-      subst (λ (s : List ℕ). (st : LinkState) × Running s a.layout st) (sym (ap (λ (y : Performed). y.step.state) o.ensures)) runs,
-    )
-
-pub shape_of-state : goal.shape_of-state
-shape_of-state c = c.loop-at.invariant.1
-
-pub shape_of-memory : goal.shape_of-memory
-shape_of-memory c = c.loop-at.invariant.2
-
-pub shape_of-room : goal.shape_of-room
-shape_of-room c = c.loop-at.invariant.3
 
 pub returns : goal.returns
 returns c =
     let a = c.args in
-    let l = c.loop-at in
-    sym (l.invariant.4.2 ∙ play_end a.sheet.now a.trace.now a.layout.l l.k l.at l.state l.memory l.invariant.4.0 l.invariant.4.1 c.loop-at-test.false)
+    let d = a.checked.now.device in
+    let l = c.loop-reader in
+    let p = l.invariant.3 in
+    sym (p.told ∙ play_end d.sheet.now a.trace.now d.layout.l l.k l.reader.at l.state l.memory p.m p.left c.loop-reader-test.false)

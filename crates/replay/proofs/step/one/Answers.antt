@@ -1,40 +1,38 @@
 -- `replay::step::one` meets its contract: a record's exchange is not refused, and so it is performed.
-use Prim.Native.Nat.{ℕ}
-use mathlib.Core.List.{List}
-use mathlib.Core.Path.{◌≡◌, sym, ap, ap₂, ◌∙◌}
-use native.Mathlib.Omega.{arith}
-use lib.ListN.{length}
-use Rattle.slave.specs.Exchange.{Left, exchanged, exchange_of}
-use Rattle.slave.specs.Wanted.{Performed, performed, performed_of, Came}
+use Rattle.std.proofs.Common.{◌≡◌, ℕ, ◌%◌, ap, ◌∙◌, arith}
+use Rattle.slave.specs.Wanted.{stepped, performed, Came}
 use Rattle.slave.proofs.Again.{its_fields}
-use Rattle.replay.proofs.Steps.{step_performed, is_exchanged}
+use Rattle.replay.proofs.Steps.{record_left, left_most}
 use Rattle.replay.proofs.step.one.Goals as goal
 
-pub perform-told-requires : goal.perform-told-requires
-perform-told-requires c =
+pub perform-told-requires-clause-ready : goal.perform-told-requires-clause-ready
+perform-told-requires-clause-ready c =
     let a = c.args in
     let p = c.requires in
-    let f = c.fields-st in (
-      record {
-        valid = p.0;
-        held = (its_fields a.state.now a.layout p.5.0 f.result p.5.1 f.ensures).held;
-        whole = p.1;
-        asked = p.3;
-        lent = p.2;
-      },
-      omega (arith, p.4),
-    )
+    let s = p.stands in
+    record {
+      held = (its_fields a.state.now a.checked.now.device.layout s.st c.fields-st.result s.running c.fields-st.ensures).held;
+      lists = record { whole = s.whole; asked = p.command; lent = p.room };
+    }
 
-pub returns : goal.returns
-returns c =
+pub returns-then-at-checked-clause-leaves : goal.returns-then-at-checked-clause-leaves
+returns-then-at-checked-clause-leaves c =
     let a = c.args in
     let p = c.requires in
-    let st = c.fields-st.result in
-    let run = its_fields a.state.now a.layout p.5.0 st p.5.1 c.fields-st.ensures in
-    let whole : (reply : List ℕ) → length reply ≡ a.layout.l
-    → exchange_of a.sheet.now a.state.now a.memory.now a.command.now reply ≡ exchanged a.sheet.now a.layout st a.memory.now a.command.now =
-    λ reply e. is_exchanged a.sheet.now a.state.now a.memory.now a.command.now reply a.layout p.0 st run p.1 p.3 e in
-    let done = ap (λ (x : Came). x.left) c.perform-told.ensures in
-    ap₂ performed
-    (step_performed a.layout.l a.state.now a.memory.now _ _ p.4 (done ∙ ap (performed_of a.theirs.now a.state.now a.memory.now) (sym (whole _ p.4))))
-    (ap (λ (x : Performed). x.reply) done ∙ sym (ap (λ (x : Left). x.reply) (whole a.room.now p.2)))
+    let d = a.checked.now in
+    let run = its_fields a.state.now d.device.layout p.stands.st c.fields-st.result p.stands.running c.fields-st.ensures in
+    record_left d.device.sheet.now a.state.now a.memory.now a.command.now a.theirs.now a.room.now d.device.layout d.valid c.fields-st.result run p.stands.whole p.command p.theirs p.room _ _
+    (ap (λ (x : Came). x.left) c.perform-told.ensures)
+
+pub returns-else-at-checked-clause-leaves : goal.returns-else-at-checked-clause-leaves
+returns-else-at-checked-clause-leaves c =
+    let a = c.args in
+    let p = c.requires in
+    let d = a.checked.now in
+    let o = c.perform-told in
+    let run = its_fields a.state.now d.device.layout p.stands.st c.fields-st.result p.stands.running c.fields-st.ensures in
+    let done = ap (λ (x : Came). x.left) o.ensures in
+    let most = left_most d.device.sheet.now a.state.now a.memory.now a.command.now a.theirs.now a.room.now d.device.layout d.valid c.fields-st.result run p.stands.whole p.command p.theirs p.room _ _ done in
+    let all : d.device.layout.l ≡ o.result % 256 = omega (arith, c.if-at-checked.false) in
+    ap (λ (n : ℕ). performed (stepped n o.new.state o.new.memory) o.new.reply) all
+    ∙ record_left d.device.sheet.now a.state.now a.memory.now a.command.now a.theirs.now a.room.now d.device.layout d.valid c.fields-st.result run p.stands.whole p.command p.theirs p.room _ _ done

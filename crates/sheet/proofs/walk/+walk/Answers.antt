@@ -6,10 +6,10 @@ use Rattle.sheet.proofs.Walked.{counted_at, walked_fault, walked_end, asked_on, 
 use Rattle.sheet.proofs.walk.+walk.Goals as goal
 
 -- what the reading asks
-pub read_record-read-requires : goal.read_record-read-requires
-read_record-read-requires t c =
+pub invariant_of-unread : goal.invariant_of-unread
+invariant_of-unread t c =
     let a = c.args in
-    counted_at a.whole.now.now a.at (counts a.regions a.parameters a.items a.tolerances a.releases a.memory) c.requires
+    record { counted = counted_at a.whole.now.now a.at (counts a.regions a.parameters a.items a.tolerances a.releases a.memory) c.requires }
 
 -- a fault
 pub returns-in_default : goal.returns-in_default
@@ -23,18 +23,18 @@ pub returns-then-octet-eq0 : goal.returns-then-octet-eq0
 returns-then-octet-eq0 t c f h =
     let a = c.args in
     c.ended.ensures
-    ∙ walked_end a.whole.now.now a.at (counts a.regions a.parameters a.items a.tolerances a.releases a.memory) c.requires _ c.read_record-read.ensures c.in-Record.size c.in-Record.next c.in-Record.is
+    ∙ walked_end a.whole.now.now a.at (counts a.regions a.parameters a.items a.tolerances a.releases a.memory) c.requires _ c.read_record-read.ensures c.in-Ok.record.size c.in-Ok.record.counts c.in-Ok.is
     (sym c.octet.ensures ∙ c.if-octet-eq0.true) f h
 
 -- the next record
 pub walk-requires : goal.walk-requires
 walk-requires t c =
     let a = c.args in
-    asked_on a.whole.now.now a.at (counts a.regions a.parameters a.items a.tolerances a.releases a.memory) c.requires _ c.read_record-read.ensures c.in-Record.size c.in-Record.next c.in-Record.is
+    asked_on a.whole.now.now a.at (counts a.regions a.parameters a.items a.tolerances a.releases a.memory) c.requires _ c.read_record-read.ensures c.in-Ok.record.size c.in-Ok.record.counts c.in-Ok.is
     (λ z. c.if-octet-eq0.false (c.octet.ensures ∙ z)) t c.decreases
 
 pub returns : goal.returns
 returns t c =
     let a = c.args in
-    walked_on a.whole.now.now a.at (counts a.regions a.parameters a.items a.tolerances a.releases a.memory) c.requires _ c.read_record-read.ensures c.in-Record.size c.in-Record.next c.in-Record.is
+    walked_on a.whole.now.now a.at (counts a.regions a.parameters a.items a.tolerances a.releases a.memory) c.requires _ c.read_record-read.ensures c.in-Ok.record.size c.in-Ok.record.counts c.in-Ok.is
     (λ z. c.if-octet-eq0.false (c.octet.ensures ∙ z)) _ c.walk.ensures

@@ -1,3 +1,4 @@
+use Rattle.std.specs.Prelude.{}
 -- `sheet::walk::ended` meets its contract: an octet behind the end record, or none.
 use Prim.Native.Nat.{ℕ, ◌+◌, ◌-◌, ◌≤◌, ◌<◌}
 use mathlib.Core.Path.{◌≡◌, sym, ap, ◌∙◌}
@@ -7,10 +8,10 @@ use Rattle.octets.proofs.Pick.{pick_lt, pick_ge}
 use Rattle.sheet.specs.Handed.{tells}
 use Rattle.sheet.specs.Walk.{ended_of}
 use Rattle.sheet.specs.declared.records.Fault.TheVariants.{Misplaced}
-use Rattle.sheet.specs.declared.walk.Verdict.TheVariants.{Faulty}
 use Rattle.sheet.proofs.Told.{tells_failed, tells_counts}
 use Rattle.sheet.proofs.Walked.{place_from}
 use Rattle.sheet.proofs.walk.ended.Goals as goal
+use Rattle.sheet.specs.Told.{faulty}
 
 pub returns-then-behind-sheet : goal.returns-then-behind-sheet
 unfolding ended_of
@@ -21,7 +22,7 @@ returns-then-behind-sheet c =
     let more : 1 < length (drop a.at s) = omega arith in
     ap (tells s) c.failed.ensures
     ∙ tells_failed s Misplaced (a.at + 1) (omega arith)
-    ∙ ap (λ (p : ℕ). Faulty Misplaced (p + 1)) (place_from a.at s c.requires.1)
+    ∙ ap (λ (p : ℕ). faulty Misplaced (p + 1)) (place_from a.at s c.requires.1)
     ∙ sym (pick_lt _ _ more)
 
 pub returns : goal.returns

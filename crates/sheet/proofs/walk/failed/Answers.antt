@@ -4,4 +4,4 @@ use Rattle.sheet.proofs.walk.failed.Goals as goal
 
 pub returns : goal.returns
 unfolding failed_number
-returns c = rw c.fault_number.ensures
+returns c = rw c.number.ensures

@@ -3,10 +3,10 @@ use mathlib.Core.Path.{◌∙◌}
 use Rattle.sheet.specs.Handed.{failed_at}
 use Rattle.sheet.proofs.walk.fault_at.Goals as goal
 
-pub returns-in-Bad : goal.returns-in-Bad
+pub returns-in-Err : goal.returns-in-Err
 unfolding failed_at
-returns-in-Bad c = c.failed.ensures ∙ rw c.in-Bad.is
+returns-in-Err c = c.failed.ensures ∙ rw c.in-Err.is
 
-pub returns-in-Record : goal.returns-in-Record
+pub returns-in-Ok : goal.returns-in-Ok
 unfolding failed_at
-returns-in-Record c = c.failed-in-Record.ensures ∙ rw c.in-Record.is
+returns-in-Ok c = c.failed-in-Ok.ensures ∙ rw c.in-Ok.is

@@ -1,13 +1,11 @@
 -- `slave::answers::sheet_answer` meets its contract, case by case.
-use Prim.Native.Nat.{ℕ}
-use mathlib.Core.Path.{ap}
-use Rattle.slave.specs.Answers.{told, sheet_answer}
+use Rattle.slave.specs.Answers.{sheet_answer}
 use Rattle.slave.proofs.answers.sheet_answer.Goals as goal
 
-pub returns-in-Valid : goal.returns-in-Valid
+pub returns-in-Ok : goal.returns-in-Ok
 unfolding sheet_answer
-returns-in-Valid c = rw c.in-Valid.is
+returns-in-Ok c = rw c.in-Ok.is c.done.ensures
 
-pub returns-in-Faulty : goal.returns-in-Faulty
+pub returns-in-Err : goal.returns-in-Err
 unfolding sheet_answer
-returns-in-Faulty c = rw c.in-Faulty.is (ap (λ (n : ℕ). told n c.in-Faulty.place) c.fault_number.ensures)
+returns-in-Err c = rw c.in-Err.is c.from.ensures

@@ -1,4 +1,5 @@
--- `LinkState::latched` meets its contract: a latch that is set keeps its alarm.
+-- `LinkState::latched` meets its contract: a latch that is set keeps its alarm. The answers stand so that a wrong test is refused by what differs
+-- (must-fail/latch_overwrites).
 use mathlib.Core.Path.{sym, ap}
 use Rattle.octets.proofs.Pick.{pick_eq, pick_ne}
 use Rattle.link.specs.Steps.{with_command}

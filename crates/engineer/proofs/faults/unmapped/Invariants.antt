@@ -1,9 +1,0 @@
--- `engineer::faults::unmapped` ends, since the regions are counted.
-use Rattle.std.proofs.Common.{◌-◌, ◌≤◌}
-use Rattle.engineer.proofs.faults.unmapped.Given as goal
-
-abbrev pub invariant-loop-i : goal.invariant-loop-i
-invariant-loop-i l = l.i ≤ 32
-
-abbrev pub decreases-loop-i : goal.decreases-loop-i
-decreases-loop-i l = 32 - l.i
