@@ -48,4 +48,5 @@ pub mod Playing
 pub mod CutWhole
 pub mod Runs
 pub mod Alone
+pub mod Answered
 pub mod Demands

@@ -10,6 +10,7 @@ use Rattle.slave.specs.Calls.{After, after}
 use Rattle.slave.specs.Exchange.{Left, left}
 use Rattle.type24.specs.Packed.{PackedAfter, packed_after, PackedLeft, packed_left, PackedReplay, packed_replay, PackedList, packed_list}
 use Rattle.demands.specs.Unique.{OneAnswer, OneAnswers}
+use Rattle.demands.proofs.Answered.{answered_one, answered_at_one, stopped_one, form_one, found_one, entered_one, octet_one, length_one}
 
 pub one_answer : OneAnswer
 one_answer A x y defined p q = p ∙ sym q
@@ -91,4 +92,15 @@ one_answers = record {
   replay_step = λ sheet l state memory room command reply d e s t m n o p a b. of_performed _ d e s t m n o p a b;
   replay_replay = λ sheet state memory trace r q s t m n a b. of_replayed _ r q s t m n a b;
   difference_difference = λ first second list r q s t a b. of_listed _ r q s t a b;
+  slave_reset_result = λ sheet state r q s t a b. let e = of_after _ _ _ s t a b in (answered_one r q e.0, e.1);
+  slave_enable_result = λ sheet state r q s t a b. let e = of_after _ _ _ s t a b in (answered_one r q e.0, e.1);
+  slave_turn_result = λ sheet old state r q s t a b. let e = of_after _ _ _ s t a b in (answered_one r q e.0, e.1);
+  slave_exchange_result = λ sheet state memory command reply r q s t m n o p a b. let e = of_left _ _ _ s t m n o p a b in (answered_at_one r q e.0, e.1, e.2, e.3);
+  replay_step_option = λ sheet l state memory room command reply d e s t m n o p x y a b.
+      let q = of_performed _ _ _ s t m n o p a b in (octet_one l d e x y q.0, q.1, q.2, q.3);
+  replay_kind_option = λ kind d e x y a b. length_one d e x y (a ∙ sym b);
+  replay_fault_option = λ l rest d e a b. found_one d e (a ∙ sym b);
+  replay_form_result = λ l trace r q a b. form_one r q (a ∙ sym b);
+  replay_replay_result = λ sheet state memory trace r q s t m n a b. let e = of_replayed _ _ _ s t m n a b in (stopped_one r q e.0, e.1, e.2);
+  difference_difference_result = λ first second list r q s t a b. let e = of_listed _ _ _ s t a b in (entered_one r q e.0, e.1);
 }

@@ -1,17 +1,26 @@
 -- "That two answers meeting one statement are equal is proved." Every promise of a callable function is one equation with a definition; so one law
 -- serves each, and for every public function with more than one output it is spelled out: the calls of a C host, those of `slave`, of `replay` and of
--- `difference`.
-use Rattle.std.specs.Prelude.{ℕ, List, ◌≡◌}
+-- `difference`. What the last three hand out is a Result or an Option, but for `perform`, and the equation is of the answer that it tells: so the same is said
+-- of Results and Options, which is more, since no two of them tell one answer.
+use Rattle.std.specs.Prelude.{ℕ, List, ◌≡◌, ◌<◌, ◌≤◌, Option, Result, IfSome}
+use Rattle.std.specs.Option.{unwrap_or}
+use Rattle.difference.specs.Answers.{entered_answer}
 use Rattle.difference.specs.Difference.{listed, difference_of}
+use Rattle.difference.specs.declared.whole.Refusal.{Refusal as Unlisted}
 use Rattle.link.specs.declared.state.LinkState.{LinkState}
 use Rattle.sheet.specs.Walk.{verdict_of}
 use Rattle.sheet.specs.declared.walk.Layout.{Layout}
-use Rattle.slave.specs.Answers.{sheet_answer}
+use Rattle.slave.specs.Answers.{sheet_answer, answered, answered_at}
 use Rattle.slave.specs.Calls.{after, reset_of, enable_of, turn_of}
 use Rattle.slave.specs.Exchange.{left, exchanged, exchange_of}
 use Rattle.slave.specs.Wanted.{stepped, performed, performed_of}
 use Rattle.slave.specs.declared.answers.Answer.{Answer}
+use Rattle.slave.specs.declared.answers.Refusal.{Refusal}
+use Rattle.replay.specs.Answers.{stopped, found_number, form_told}
 use Rattle.replay.specs.Replay.{record_leaves, replayed, replay_of}
+use Rattle.replay.specs.Trace.{kind_length, fault_of, checked_form}
+use Rattle.replay.specs.declared.answers.Fault.{Fault}
+use Rattle.replay.specs.declared.answers.Stop.{Stop}
 use Rattle.type24.specs.Packed.{packed, packed_after, after_call, packed_left, left_by_call, lengths_of, packed_replay, by_replay, packed_list, by_difference}
 
 -- the law: two values that equal one definition are equal
@@ -109,6 +118,61 @@ OneDifference =
     (first second list : List ℕ) (r q : Answer) (s t : List ℕ)
     → listed r s ≡ difference_of first second list → listed q t ≡ difference_of first second list → (r ≡ q) × (s ≡ t)
 
+-- the same of what these functions hand out
+abbrev pub OneResetResult : Type 0
+OneResetResult =
+    (sheet state : List ℕ) (r q : Result (Unit {0}) Refusal) (s t : List ℕ)
+    → after (answered r) s ≡ reset_of sheet state → after (answered q) t ≡ reset_of sheet state → (r ≡ q) × (s ≡ t)
+
+abbrev pub OneEnableResult : Type 0
+OneEnableResult =
+    (sheet state : List ℕ) (r q : Result (Unit {0}) Refusal) (s t : List ℕ)
+    → after (answered r) s ≡ enable_of sheet state → after (answered q) t ≡ enable_of sheet state → (r ≡ q) × (s ≡ t)
+
+abbrev pub OneTurnResult : Type 0
+OneTurnResult =
+    (sheet old state : List ℕ) (r q : Result (Unit {0}) Refusal) (s t : List ℕ)
+    → after (answered r) s ≡ turn_of sheet old state → after (answered q) t ≡ turn_of sheet old state → (r ≡ q) × (s ≡ t)
+
+abbrev pub OneExchangeResult : Type 0
+OneExchangeResult =
+    (sheet state memory command reply : List ℕ) (r q : Result ℕ Refusal) (s t m n o p : List ℕ)
+    → left (answered_at r) s m o ≡ exchange_of sheet state memory command reply
+    → left (answered_at q) t n p ≡ exchange_of sheet state memory command reply
+    → (r ≡ q) × (s ≡ t) × (m ≡ n) × (o ≡ p)
+
+-- the octet of one record, which lies in its reply
+abbrev pub OneStepOption : Type 0
+OneStepOption =
+    (sheet : List ℕ) (l : ℕ) (state memory room command reply : List ℕ) (d e : Option ℕ) (s t m n o p : List ℕ)
+    → IfSome d (λ octet. octet < l) → IfSome e (λ octet. octet < l)
+    → performed (stepped (unwrap_or d l) s m) o ≡ record_leaves sheet l state memory room command reply
+    → performed (stepped (unwrap_or e l) t n) p ≡ record_leaves sheet l state memory room command reply
+    → (d ≡ e) × (s ≡ t) × (m ≡ n) × (o ≡ p)
+
+-- the L of a kind, which is at least 1 where there is one
+abbrev pub OneKindOption : Type 0
+OneKindOption =
+    (kind : ℕ) (d e : Option ℕ) → IfSome d (λ l. 1 ≤ l) → IfSome e (λ l. 1 ≤ l) → unwrap_or d 0 ≡ kind_length kind → unwrap_or e 0 ≡ kind_length kind → d ≡ e
+
+-- the fault of a record, and what the form of a trace comes to
+abbrev pub OneFaultOption : Type 0
+OneFaultOption = (l : ℕ) (rest : List ℕ) (d e : Option Fault) → found_number d ≡ fault_of l rest → found_number e ≡ fault_of l rest → d ≡ e
+
+abbrev pub OneFormResult : Type 0
+OneFormResult = (l : ℕ) (trace : List ℕ) (r q : Result (Unit {0}) Stop) → form_told r ≡ checked_form l trace → form_told q ≡ checked_form l trace → r ≡ q
+
+abbrev pub OneReplayResult : Type 0
+OneReplayResult =
+    (sheet state memory trace : List ℕ) (r q : Result ℕ Stop) (s t m n : List ℕ)
+    → replayed (stopped r) s m ≡ replay_of sheet state memory trace → replayed (stopped q) t n ≡ replay_of sheet state memory trace
+    → (r ≡ q) × (s ≡ t) × (m ≡ n)
+
+abbrev pub OneDifferenceResult : Type 0
+OneDifferenceResult =
+    (first second list : List ℕ) (r q : Result ℕ Unlisted) (s t : List ℕ)
+    → listed (entered_answer r) s ≡ difference_of first second list → listed (entered_answer q) t ≡ difference_of first second list → (r ≡ q) × (s ≡ t)
+
 -- all of them, and the law that serves any other
 pub record OneAnswers : Type 1 where
   pub of_every_promise : OneAnswer
@@ -128,3 +192,13 @@ pub record OneAnswers : Type 1 where
   pub replay_step : OneStep
   pub replay_replay : OneReplay
   pub difference_difference : OneDifference
+  pub slave_reset_result : OneResetResult
+  pub slave_enable_result : OneEnableResult
+  pub slave_turn_result : OneTurnResult
+  pub slave_exchange_result : OneExchangeResult
+  pub replay_step_option : OneStepOption
+  pub replay_kind_option : OneKindOption
+  pub replay_fault_option : OneFaultOption
+  pub replay_form_result : OneFormResult
+  pub replay_replay_result : OneReplayResult
+  pub difference_difference_result : OneDifferenceResult

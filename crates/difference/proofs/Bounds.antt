@@ -35,6 +35,28 @@ pub key_most : (k : ℕ) → key_width k ≤ 4
 unfolding key_width pick
 key_most k = grind arith
 
+pub first_most : (k : ℕ) → first_width k ≤ 4
+unfolding first_width
+first_most k =
+    let P : ℕ → Type 0 = λ n. n ≤ 4 in
+    pick_both P _ (omega arith) (pick_both P _ (omega arith) (omega arith))
+
+pub second_most : (k : ℕ) → second_width k ≤ 4
+unfolding second_width
+second_most k =
+    let P : ℕ → Type 0 = λ n. n ≤ 4 in
+    pick_both P _ (omega arith) (pick_both P _ (omega arith) (pick_both P _ (omega arith) (omega arith)))
+
+pub third_most : (k : ℕ) → third_width k ≤ 32
+unfolding third_width
+third_most k =
+    let P : ℕ → Type 0 = λ n. n ≤ 32 in
+    pick_both P _ (omega arith) (pick_both P _ (omega arith) (omega arith))
+
+pub bit_most : (a : List ℕ) (i : ℕ) (b : List ℕ) (j n bit : ℕ) → bit_of a i b j n bit ≤ bit
+unfolding bit_of
+bit_most a i b j n bit = pick_both (λ (m : ℕ). m ≤ bit) _ (omega arith) (omega arith)
+
 pub cut_length : (s : List ℕ) (n at : ℕ) → length (cut s at n) ≡ n
 unfolding cut
 cut_length s zero at = refl

@@ -82,9 +82,9 @@ pub fn word(kind: Kind) -> &'static str {
     }
 }
 
-// The octets of a record, its kind octet among them.
+// The octets of a record, its kind octet among them; so many that every walk goes on.
 pub fn size(kind: Kind) -> usize
-    ensures { 1 ≤ result }
+    ensures { (1 ≤ result) × (result ≤ 35) }
 {
     difference::records::size(kind as u8)
 }

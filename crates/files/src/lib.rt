@@ -14,12 +14,10 @@ use std::{fs, io, str};
 // Room for any path that the system takes; it is fixed, as the programs allocate nothing.
 const PATH_ROOM: usize = 4096;
 
-// A line about a file; its path need not be UTF-8, so no format takes it.
+// A line about a file, in two writes: its path, which need not be UTF-8, so that no format takes it, and what is said behind it, to the line's end.
 fn print_about(rt: &impl Print, path: &[u8], what: &[u8]) {
     let _ = rt.write_all(path);
-    let _ = rt.write_all(b": ");
     let _ = rt.write_all(what);
-    let _ = rt.write_all(b"\n");
 }
 
 // A file open for reading. A name that is not UTF-8 is none that can be asked for.
@@ -64,7 +62,7 @@ impl<'a> Source<'a> {
         }
     }
 
-    // A line about it.
+    // A line about it: what is said behind its path, to the line's end.
     pub fn print_line(self, rt: &(impl Env + Print), what: &[u8]) {
         let mut room = [0u8; PATH_ROOM];
         let path = self.path(rt, &mut room);
@@ -75,17 +73,17 @@ impl<'a> Source<'a> {
     pub fn open<R: Files + Env + Print>(self, rt: &R) -> Option<R::File> {
         let mut room = [0u8; PATH_ROOM];
         let Some(path) = self.path(rt, &mut room) else {
-            print_about(rt, self.name, b"the name given for it is too long");
+            print_about(rt, self.name, b": the name given for it is too long\n");
             return None;
         };
         match opened(rt, path) {
             Ok(file) => Some(file),
             Err(error) if error.kind() == ErrorKind::NotFound => {
-                print_about(rt, path, b"missing");
+                print_about(rt, path, b": missing\n");
                 None
             }
             Err(_) => {
-                print_about(rt, path, b"cannot be opened");
+                print_about(rt, path, b": cannot be opened\n");
                 None
             }
         }
@@ -96,46 +94,41 @@ impl<'a> Source<'a> {
         // Fixed room, as the programs allocate nothing.
         let mut one = [0u8; 1];
         if file.read(&mut one).is_err() {
-            self.print_line(rt, b"cannot be read");
+            self.print_line(rt, b": cannot be read\n");
             return false;
         }
         true
     }
 
     // A file as far as lent room goes: how many octets were read, and whether it ended within the room. One that cannot be read gets its line. Handle, file and room
-    // are lent apart by the program: the file is used up, the room is filled, and the handle serves both.
-    fn fill(
-        self,
-        rt: &(impl Env + Print),
-        mut file: impl Read + Drop,
-        room: &mut [u8],
-    ) -> (usize, bool)
+    // are lent apart by the program: the room is filled from the file, and the handle serves both.
+    fn fill(self, rt: &(impl Env + Print), file: &mut impl Read, room: &mut [u8]) -> (usize, bool)
         ensures in_bounds { result.0 ≤ length room.new }
         ensures front { result.0 ≡ length (take result.0 room.new) }
     {
-        let n = read_full(&mut file, room);
-        (n, n < room.len() && self.is_at_end(rt, &mut file))
+        let n = read_full(file, room);
+        (n, n < room.len() && self.is_at_end(rt, file))
     }
 
     // A file as far as lent room goes; how many octets were read. One that cannot be read gets its line.
-    pub fn take(self, rt: &(impl Env + Print), file: impl Read + Drop, room: &mut [u8]) -> usize
+    pub fn take(self, rt: &(impl Env + Print), mut file: impl Read + Drop, room: &mut [u8]) -> usize
         ensures in_bounds { result ≤ length room.new }
         ensures front { result ≡ length (take result room.new) }
     {
-        let (n, _) = self.fill(rt, file, room);
+        let (n, _) = self.fill(rt, &mut file, room);
         n
     }
 
-    // A file whole in lent room that has one octet more than such a file may have; how many octets it has.
-    pub fn read(self, rt: &(impl Env + Print), file: impl Read + Drop, room: &mut [u8]) -> usize
+    // A file whole in lent room that has one octet more than such a file may have; how many octets it has. It is closed behind its line.
+    pub fn read(self, rt: &(impl Env + Print), mut file: impl Read + Drop, room: &mut [u8]) -> usize
         ensures in_bounds { result ≤ length room.new }
         ensures front { result ≡ length (take result room.new) }
     {
-        let (n, ended) = self.fill(rt, file, room);
+        let (n, ended) = self.fill(rt, &mut file, room);
         if n == room.len() {
-            self.print_line(rt, b"too long");
+            self.print_line(rt, b": too long\n");
         } else if ended && n == 0 {
-            self.print_line(rt, b"empty");
+            self.print_line(rt, b": empty\n");
         }
         n
     }

@@ -59,7 +59,7 @@ fn turned<R: Files + Env + Print + Eprint>(
         showing::print_refusal(rt, Stop::Refused(refusal), 0);
         return;
     }
-    STATE.print_line(rt, b"a state record of release 1, turned");
+    STATE.print_line(rt, b": a state record of release 1, turned\n");
     let mut drive = Drive {
         sheet,
         state: &mut state,

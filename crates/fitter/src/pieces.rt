@@ -70,7 +70,7 @@ pub fn form(rt: &(impl Env + Print + Eprint), trace: &mut impl Read, l: u8) -> O
         Some(after)
     })?;
     if octets == 0 {
-        TRACE.print_line(rt, b"empty");
+        TRACE.print_line(rt, b": empty\n");
     }
     Some(octets)
 }
@@ -108,7 +108,7 @@ fn play_piece(
             None
         }
         Err(_) => {
-            TRACE.print_line(rt, b"changed while it was read");
+            TRACE.print_line(rt, b": changed while it was read\n");
             None
         }
     }
@@ -127,7 +127,7 @@ pub fn play<R: Files + Env + Print + Eprint>(rt: &R, drive: &mut Drive, l: u8, o
         return;
     };
     if count != records(octets, l) {
-        TRACE.print_line(rt, b"changed while it was read");
+        TRACE.print_line(rt, b": changed while it was read\n");
     } else if count == 0 {
         let _ = println!(rt; "nothing to replay: the trace has no record");
     } else {

@@ -1,11 +1,11 @@
 -- The numbers of both types, as far as proofs lean on them.
-use Prim.Native.Nat.{ℕ, ◌+◌, ◌≤◌}
+use Prim.Native.Nat.{ℕ, ◌+◌, ◌≤◌, ◌<◌}
 use native.Mathlib.Omega.{arith}
 use Rattle.machine.specs.declared.words.Carrier.{Carrier}
 use Rattle.machine.specs.declared.words.Carrier.TheVariants.{Parameter, Memory}
 use Rattle.sheet.specs.declared.walk.Form.{Form}
 use Rattle.sheet.specs.declared.walk.Form.TheVariants.{Enhanced, Short}
-use Rattle.frame.specs.Places.{fields_end, alarms_at, body_end, data_from, echo_from, echo_size, Sized}
+use Rattle.frame.specs.Places.{wdt_at, fields_end, alarms_at, body_end, data_from, echo_from, echo_size, Sized}
 
 -- the body lies in the PDU
 pub end_within : (form : Form) (l : ℕ) → body_end form l ≤ l
@@ -18,6 +18,11 @@ pub fields_behind : (form : Form) → 4 ≤ fields_end form
 unfolding fields_end
 fields_behind Enhanced = omega arith
 fields_behind Short = omega arith
+
+pub fields_most : (form : Form) → fields_end form ≤ 8
+unfolding fields_end
+fields_most Enhanced = omega arith
+fields_most Short = omega arith
 
 pub alarms_behind : (form : Form) → 4 ≤ alarms_at form
 unfolding alarms_at
@@ -47,3 +52,8 @@ pub sized_long : (form : Form) (l : ℕ) → Sized form l → 8 ≤ l
 unfolding Sized
 sized_long Enhanced l s = s
 sized_long Short l s = omega arith
+
+pub wdt_within : (form : Form) (l : ℕ) → Sized form l → wdt_at form < l
+unfolding Sized wdt_at
+wdt_within Enhanced l s = omega arith
+wdt_within Short l s = omega arith

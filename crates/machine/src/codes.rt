@@ -4,7 +4,6 @@ ghost use Rattle.machine.specs.Codes.{NamesCode, is_full, is_known, is_allowed};
 ghost use Rattle.machine.specs.Judgements.{alarm_number};
 
 use sheet::walk::Form;
-use std::fmt;
 
 // The commands, by the names of document 01.
 #[derive(Clone, Copy, PartialEq, Eq)]
@@ -47,24 +46,6 @@ impl TryFrom<u8> for Code {
             0x1E => Ok(Code::MemWr),
             _ => Err(UnknownCode(number)),
         }
-    }
-}
-
-impl fmt::Display for Code {
-    fn fmt<W: fmt::Write>(&self, f: &mut fmt::Formatter<W>) -> fmt::Result {
-        f.write_str(match self {
-            Code::Nop => "NOP",
-            Code::PrmRd => "PRM_RD",
-            Code::PrmWr => "PRM_WR",
-            Code::IdRd => "ID_RD",
-            Code::AlmRd => "ALM_RD",
-            Code::AlmClr => "ALM_CLR",
-            Code::SyncSet => "SYNC_SET",
-            Code::Connect => "CONNECT",
-            Code::Disconnect => "DISCONNECT",
-            Code::MemRd => "MEM_RD",
-            Code::MemWr => "MEM_WR",
-        })
     }
 }
 

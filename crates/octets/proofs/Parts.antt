@@ -1,4 +1,6 @@
--- A law of what a lent part holds, which a reader of `put` may want beside its clause.
+-- Laws of what a lent part holds.
+--     copied_source_end, copied_part_end    a copy that has gone as far as either list goes
+--     filled_part                           a part from a place on, lent and filled whole, is laid over the whole
 use mathlib.Core.Path.{◌≡◌, ap}
 use mathlib.Core.List.{List, [], ◌++◌, append-nil}
 use Prim.Native.Nat.{ℕ, ◌+◌, ◌-◌, ◌≤◌}
@@ -6,6 +8,20 @@ use native.Mathlib.Omega.{arith}
 use lib.ListN.{length, take, drop, length-drop, drop_of_length-le}
 use lib.Seq.{length-take-le, take_all, drop-drop}
 use Rattle.octets.specs.Parts.{copied, put_at}
+
+pub copied_source_end : (d s : List ℕ) (i : ℕ) → i ≤ length d → i ≤ length s → length s ≤ i → take i s ++ drop i d ≡ copied d s
+unfolding copied
+copied_source_end d s i hd hs he =
+    let e : length s ≡ i = omega arith in
+    let hsd : length s ≤ length d = omega arith in
+    rw (e, take_all i s he, take_all (length d) s hsd)
+
+pub copied_part_end : (d s : List ℕ) (i : ℕ) → i ≤ length d → i ≤ length s → length d ≤ i → take i s ++ drop i d ≡ copied d s
+unfolding copied
+copied_part_end d s i hd hs he =
+    let e : i ≡ length d = omega arith in
+    let hds : length d ≤ length s = omega arith in
+    rw (e, drop_of_length-le d {i = length d} (omega arith), drop_of_length-le d {i = length s} hds)
 
 -- a list whose part, as long as what enters it, was lent and filled
 pub filled_part : (d : List ℕ) (at : ℕ) (s : List ℕ) → at + length s ≤ length d

@@ -63,21 +63,21 @@ pub fn fill(d: &mut [u8], v: u8)
     }
 }
 
-// The octets of `s` enter the lent part at its front, as far as it goes; the octets behind them stay.
-#[tactic(auto, unfolding(crate::specs::Parts::copied))]
+// The octets of `s` enter the lent part at its front, as far as it goes; the octets behind them stay. One by one, so that the archive calls no memmove of its host's.
 pub fn copy(d: &mut [u8], s: &[u8])
     ensures { d.new ≡ copied d.old s.now }
 {
-    let n = d.len().min(s.len());
-    d[..n].copy_from_slice(&s[..n]);
+    for i in 0..d.len().min(s.len()) {
+        d[i] = s[i];
+    }
 }
 
 // The octets of `s` enter `d` at `at`: just the part that they fill is lent, from its first octet to its last, and nothing before or after is touched.
-#[tactic(auto, unfolding(crate::specs::Parts::put_at))]
+#[tactic(auto, using(crate::proofs::Parts::filled_part), unfolding(crate::specs::Parts::put_at))]
 pub fn put(d: &mut [u8], at: usize, s: &[u8])
     requires { at + length s.now ≤ length d.old }
     ensures { d.new ≡ put_at d.old at s.now }
 {
     let to = at + s.len();
-    d[at..to].copy_from_slice(s);
+    copy(&mut d[at..to], s);
 }

@@ -3,7 +3,7 @@
 --     placed_octet     an octet before the end at hand moves nothing
 --     placed_region    behind that end, a region that does not deny the octet is the next at hand
 --     placed_found     where an octet was passed, the first is in the memory as far before the end of the regions passed as it is before their last end
---     reach_none, reach_all   what is told where the search broke off or had nothing to search, and where it came to the end
+--     reach_short, reach_none, reach_all   what is told where the search broke off, or had nothing to search, and where it came to the end
 use mathlib.Core.Bool.{false}
 use mathlib.Core.Logic.{◌⊎◌, ⊎_elim}
 use mathlib.Core.Path.{◌≡◌, refl, sym, ap, subst, ◌∙◌}
@@ -114,6 +114,11 @@ module _ (f : ℕ → Region) (n a : ℕ) where
         (omega (arith, g.2), q ∙ sym (ap place_in g.1.1))
 
 module _ (rs : List Region) (w : Right) (a n : ℕ) where
+  -- a search that broke off tells no place
+  pub reach_short : (b : ℕ) → b ≡ before_of rs w a n → (b ≡ n → ⊥) → ◌≡◌ {A = Reach} record { before = b; place = 0 } (reach_of rs w a n)
+  unfolding reach_of
+  reach_short b e z = let p = sym (pick_ne (span_place rs a n) 0 (λ (q : before_of rs w a n ≡ n). z (e ∙ q))) in λ i. record { before = e i; place = p i }
+
   -- a search that broke off, or had no octet to search, tells no place
   pub reach_none : (b : ℕ) → b ≡ before_of rs w a n → (b < n) ⊎ (n ≡ 0) → ◌≡◌ {A = Reach} record { before = b; place = 0 } (reach_of rs w a n)
   unfolding reach_of

@@ -1,4 +1,5 @@
 -- The form of a trace, record by record.
+--     fault_told                      the number of what stands at a place is the fault's
 --     form_end, form_bad, form_on     what the form from record k on is
 --     form_whole                      a trace without a fault has whole records alone
 --     checked_short, checked_whole    the same, of a trace of any length
@@ -14,7 +15,7 @@ use lib.Dec.{eqb, ltb}
 use lib.ListN.{length, get_or, drop, length-drop}
 use Rattle.octets.proofs.Cases.{lt_or_le, eq_or_ne}
 use Rattle.octets.proofs.Pick.{pick_yes, pick_no, pick_lt, pick_ge, passed}
-use Rattle.replay.specs.Trace.{kind_length, record_size, fault_of, fault_named, record_at, formed, form_from, form_of, checked_form, Records}
+use Rattle.replay.specs.Trace.{kind_length, record_size, fault_of, fault_named, record_at, formed, fault_in, form_from, form_of, checked_form, Records}
 use Rattle.replay.specs.Answers.{fault_number}
 use Rattle.replay.specs.declared.answers.Fault.{Fault}
 use Rattle.replay.proofs.Faults.{fault_back}
@@ -36,6 +37,15 @@ module _ (l : ℕ) (trace : List ℕ) (at : ℕ) where
     at_bad : (fault_of l (drop at trace) ≡ 0 → ⊥) → record_at l trace at ≡ Bad (fault_named (fault_of l (drop at trace)))
     unfolding record_at
     at_bad n = pick_no _ _ (lt-leb (length trace) at h) ∙ pick_no _ _ (ne_eqb (fault_of l (drop at trace)) 0 n)
+
+    -- the number of what stands there is the fault's
+    pub fault_told : fault_in (record_at l trace at) ≡ fault_of l (drop at trace)
+    unfolding fault_in
+    fault_told =
+        ⊎_elim
+        (λ e. rw (at_whole e) (sym e))
+        (λ n. rw (at_bad n) (fault_back l (drop at trace) n))
+        (eq_or_ne (fault_of l (drop at trace)) 0)
 
 module _ (l : ℕ) (trace : List ℕ) (k : ℕ) where
   pub form_end : (n : ℕ) → length trace ≤ k * record_size l → form_from l trace k n ≡ told 0 0

@@ -1,8 +1,10 @@
 -- The replay's definition, record by record.
---     Handed                         its parts, which have L octets each
+--     command_whole, reply_whole     where a record is whole, its parts have L octets each
+--     Handed                         its parts as they are handed out
 --     play_differs                   a record whose reply is another ends it
 --     play_agrees                    and one whose reply is the same leads to the next
---     one_more, one_handed           where octets are left, a record is, and it is whole
+--     one_more, one_whole            where octets are left, a record is, and it is whole
+--     one_handed                     and so are its parts
 use mathlib.Core.List.{List, ◌∷◌}
 use mathlib.Core.Path.{◌≡◌, refl, sym, ap, ◌∙◌}
 use Prim.Native.Nat.{ℕ, zero, suc, ◌+◌, ◌*◌, ◌/◌, ◌<◌, ◌≤◌}
@@ -26,11 +28,11 @@ module _ (l : ℕ) (trace : List ℕ) (at : ℕ) where
   first_record m = ap (λ (rest : List ℕ). traced (command_at l trace at) (reply_at l trace at) ∷ records_of l m rest) (drop-drop (record_size l) at trace)
 
   module _ (h : at + record_size l ≤ length trace) where
-    command_whole : length (command_at l trace at) ≡ l
+    pub command_whole : length (command_at l trace at) ≡ l
     unfolding command_at
     command_whole = part_whole trace at 1 l (omega arith)
 
-    reply_whole : length (reply_at l trace at) ≡ l
+    pub reply_whole : length (reply_at l trace at) ≡ l
     unfolding reply_at
     reply_whole = part_whole trace at (1 + l) l (omega arith)
 
@@ -43,14 +45,14 @@ pub record Handed (l : ℕ) (trace : List ℕ) (at : ℕ) (command reply : List 
 
 -- and what its exchange leads to, where n records are left, it and m more
 module _ (sheet trace : List ℕ) (l k at : ℕ) (state memory : List ℕ) (x : Stepped) {n m : ℕ} (more : n ≡ suc m) {command reply : List ℕ}
-    (r : Handed l trace at command reply) (e : x ≡ stepped_of l state memory reply (exchange_of sheet state memory command reply)) where
+    (sent : command ≡ command_at l trace at) (came : reply ≡ reply_at l trace at) (e : x ≡ stepped_of l state memory reply (exchange_of sheet state memory command reply)) where
   opened : play_of sheet l k state memory (records_of l n (drop at trace))
       ≡ on_step l k x (λ s r. play_of sheet l (suc k) s r (records_of l m (drop (at + record_size l) trace)))
   unfolding play_of
   opened =
       ap (play_of sheet l k state memory) (ap (λ (i : ℕ). records_of l i (drop at trace)) more ∙ first_record l trace at m)
       ∙ ap (λ (y : Stepped). on_step l k y (λ s r. play_of sheet l (suc k) s r (records_of l m (drop (at + record_size l) trace))))
-      (sym (e ∙ (λ i. stepped_of l state memory (r.came i) (exchange_of sheet state memory (r.sent i) (r.came i)))))
+      (sym (e ∙ (λ i. stepped_of l state memory (came i) (exchange_of sheet state memory (sent i) (came i)))))
 
   pub play_differs : x.at < l → play_of sheet l k state memory (records_of l n (drop at trace)) ≡ replayed (told 34 (64 * k + x.at)) x.state x.memory
   unfolding on_step
@@ -69,7 +71,7 @@ one_more n at zero s e h = absurd (let z : ⊥ = omega arith in z)
 one_more n at (suc p) s e h = (p, refl, (let q = suc-mul p s in omega arith))
 
 -- and it is whole
-one_whole : (n at m s : ℕ) → n ≡ at + m * s → at < n → at + s ≤ n
+pub one_whole : (n at m s : ℕ) → n ≡ at + m * s → at < n → at + s ≤ n
 one_whole n at m s e h = let q = one_more n at m s e h in omega (arith, q.2)
 
 one_inside : (l : ℕ) (trace : List ℕ) (at m : ℕ) → length trace ≡ at + m * record_size l → at < length trace → at + record_size l ≤ length trace

@@ -1,6 +1,7 @@
 -- What an exchange with a record's two parts is, case by case.
 --     cut_part         a part that is lent is the record's
 --     part_whole       and as long as asked
+--     step_performed   a command of which a record's reply is wanted is the record's step
 --     is_exchanged     a record's exchange is not refused
 --     step_runs        and its step leaves a state for the next record's
 --     record_left      what performing its command leaves is what the record leaves
@@ -38,9 +39,8 @@ module _ (trace : List ℕ) (at from n : ℕ) where
   unfolding part
   part_whole h = simp (length-take, length-drop) (omega arith)
 
--- where all of a record's reply is wanted, what is performed is stepped
 -- a command of which a record's reply is wanted is the record's step
-step_performed : (l : ℕ) (state memory wanted : List ℕ) (x : Left) → length wanted ≡ l → {s : Stepped} {r : List ℕ}
+pub step_performed : (l : ℕ) (state memory wanted : List ℕ) (x : Left) → length wanted ≡ l → {s : Stepped} {r : List ℕ}
     → performed s r ≡ performed_of wanted state memory x → s ≡ stepped_of l state memory wanted x
 step_performed l state memory wanted x e p = ap (λ (y : Performed). y.step) p ∙ ap (λ (n : ℕ). stepped_of n state memory wanted x) e
 

@@ -1,5 +1,6 @@
 -- A search by key, once for parameters and ID items.
 --     sought_first, sought_none   the first entry with the key is found; where none has it, none is
+--     sought_keeps                what holds of every entry found and of none found, holds of what is found
 --     sought_has                  what holds of every entry holds of the one that was found
 use Rattle.std.specs.Prelude.{Option, None, Some}
 use mathlib.Core.Path.{◌≡◌, refl, sym, ap, subst, ◌∙◌}
@@ -15,7 +16,7 @@ use Rattle.regions.specs.Region.{listed}
 use Rattle.sheet.specs.Entries.{sought}
 
 -- what holds of every entry found and of none found, holds of what is found
-sought_keeps : {A B : Type 0} (key : A → ℕ) (found : A → B) (missing : B) (Q : B → Type 0) (f : ℕ → A) (k m n : ℕ)
+pub sought_keeps : {A B : Type 0} (key : A → ℕ) (found : A → B) (missing : B) (Q : B → Type 0) (f : ℕ → A) (k m n : ℕ)
     → Q missing → ((i : ℕ) → k ≤ i → i < k + m → Q (found (f i))) → Q (sought key found missing (listed f k m) n)
 unfolding sought listed
 sought_keeps key found missing Q f k zero n q all = q

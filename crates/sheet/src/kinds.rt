@@ -28,17 +28,19 @@ impl TryFrom<u8> for Kind {
 
     #[tactic(auto, unfolding(crate::specs::Kinds::is_kind))]
     fn try_from(number: u8) -> Result<Kind, UnknownKind> {
-        match number {
-            0 => Ok(Kind::End),
-            1 => Ok(Kind::Link),
-            2 => Ok(Kind::Region),
-            3 => Ok(Kind::Parameter),
-            4 => Ok(Kind::Item),
-            5 => Ok(Kind::ShortLink),
-            6 => Ok(Kind::Tolerance),
-            7 => Ok(Kind::Release),
-            _ => Err(UnknownKind(number)),
+        if !is_kind(number) {
+            return Err(UnknownKind(number));
         }
+        Ok(match number {
+            0 => Kind::End,
+            1 => Kind::Link,
+            2 => Kind::Region,
+            3 => Kind::Parameter,
+            4 => Kind::Item,
+            5 => Kind::ShortLink,
+            6 => Kind::Tolerance,
+            _ => Kind::Release,
+        })
     }
 }
 

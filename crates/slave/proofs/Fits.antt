@@ -1,7 +1,7 @@
 -- Whatever the machine does, it fits: the data into the PDU, the span into the memory, an item's octets into the sheet.
 use Rattle.std.specs.Prelude.{Option, None, Some, Ok, Err}
 use mathlib.Core.Bool.{Bool, true, false}
-use mathlib.Core.Path.{◌≡◌, refl, ap, ◌∙◌}
+use mathlib.Core.Path.{◌≡◌, refl, sym, ap, ◌∙◌}
 use mathlib.Core.List.{List}
 use Prim.Native.Nat.{ℕ, ◌+◌, ◌-◌, ◌*◌, ◌≤◌}
 use native.Mathlib.Nat.{le_refl}
@@ -182,12 +182,13 @@ module _ (s : List ℕ) (lay : Layout) (ok : ValidSheet s lay) (st : LinkState) 
   outcome_fits =
       pick_both (λ (o : Outcome). Fitting lay.form o.effect lay.l lay.memory (length s)) _ quiet (finished_fits (judge_of s lay st c stray) judge_fits)
 
--- on lent lists of the right lengths the effect of what a command comes to fits
+-- on lent lists of the right lengths the effect of what a command comes to fits, over any reply begun of the same length
 pub lent_fits : (sheet memory command reply : List ℕ) (lay : Layout) (st : LinkState) → verdict_of sheet ≡ Ok lay → Lent memory command reply lay
-    → (c : Command) (stray : ℕ) (o : Outcome) → o ≡ outcome_of sheet lay st c stray
-    → Fitting lay.form o.effect (length reply) (length memory) (length sheet)
-lent_fits sheet memory command reply lay st v p c stray o e =
-    rw (p.lent, p.whole, e) (outcome_fits sheet lay (valid_sheet sheet lay v) st c stray)
+    → (c : Command) (stray : ℕ) (o : Outcome) (begun : List ℕ) → o ≡ outcome_of sheet lay st c stray → length begun ≡ length reply
+    → (length command ≡ length begun) × Fitting lay.form o.effect (length begun) (length memory) (length sheet)
+lent_fits sheet memory command reply lay st v p c stray o begun e l =
+    let same : length begun ≡ lay.l = l ∙ p.lent in
+    (p.asked ∙ sym same, rw (same, p.whole, e) (outcome_fits sheet lay (valid_sheet sheet lay v) st c stray))
 
 -- where nothing refuses, the lists have the lengths that a layout says
 pub ready_lent : (state memory command reply : List ℕ) (lay : Layout) (st : LinkState) → Ready state memory command reply lay st → Lent memory command reply lay

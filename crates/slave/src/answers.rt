@@ -53,12 +53,17 @@ impl From<Refusal> for Answer {
 }
 
 // The verdict on a sheet as an answer: 0 for a valid one.
+#[tactic(auto, unfolding(crate::specs::Answers::sheet_answer))]
 pub fn sheet_answer(verdict: Result<Layout, Flaw>) -> Answer
     ensures { result ≡ sheet_answer verdict }
 {
     match verdict {
         Ok(_) => done(0),
-        Err(flaw) => Answer::from(Refusal::Sheet(flaw)),
+        // Field by field, as they were stored: the two read at once would wait for both.
+        Err(Flaw { fault, place }) => Answer {
+            number: fault.number(),
+            place: u32::from(place),
+        },
     }
 }
 

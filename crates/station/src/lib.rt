@@ -2,7 +2,7 @@
 // each reply as one line of upper-case hex; a last piece shorter than L prints CUT; a refused sheet prints SHEET, number and place.
 #![tactic(auto)]
 
-use hexline::Hex;
+use sheet::walk::Layout;
 use std::io::Read;
 use std::rt::Files;
 use std::{fs, io};
@@ -40,18 +40,14 @@ impl Unit<'_> {
                 command,
                 reply,
             );
-            println!(rt; "{}", Hex(reply))?;
+            hexline::print_hex(rt, reply)?;
         }
         Ok(())
     }
 }
 
-// The bench run on a sheet that was read; there is room for every valid one.
-fn bench(rt: &impl Print, input: &mut impl Read, sheet: &[u8]) -> io::Result<()> {
-    let layout = match sheet::walk::check(sheet) {
-        Ok(layout) => layout,
-        Err(flaw) => return println!(rt; "SHEET {} {}", flaw.fault.number(), flaw.place),
-    };
+// A slave on a valid sheet, from reset on; there is room for every valid one.
+fn start(rt: &impl Print, input: &mut impl Read, sheet: &[u8], layout: Layout) -> io::Result<()> {
     // Fixed room for any sheet, as the program allocates nothing.
     let mut state = [0u8; 11];
     let mut memory = [0u8; 65536];
@@ -74,6 +70,14 @@ fn bench(rt: &impl Print, input: &mut impl Read, sheet: &[u8]) -> io::Result<()>
         memory,
     };
     unit.serve(rt, input, command, reply)
+}
+
+// The bench run on a sheet that was read.
+fn bench(rt: &impl Print, input: &mut impl Read, sheet: &[u8]) -> io::Result<()> {
+    match sheet::walk::check(sheet) {
+        Ok(layout) => start(rt, input, sheet, layout),
+        Err(flaw) => println!(rt; "SHEET {} {}", flaw.fault.number(), flaw.place),
+    }
 }
 
 // The whole bench run.

@@ -14,17 +14,23 @@ ghost use Rattle.slave.specs.Exchange.{exchange_of};
 ghost use Rattle.slave.specs.declared.answers.Answer.{Answer};
 ghost use Rattle.type24.specs.Packed.{release, packed, packed_after, after_call, packed_left, left_by_call, lengths_of, packed_replay, by_replay, packed_list, by_difference};
 
-use slave::answers::{Answer, Refusal};
+use slave::answers::Answer;
+
+// An answer as one number.
+fn in_one(answer: Answer) -> u64
+    ensures { result ≡ packed answer }
+{
+    u64::from(answer.number) + 4294967296 * u64::from(answer.place)
+}
 
 // What a call comes to as one number: 0 with the place that it tells, or what refuses it.
 fn pack<E: Into<Answer>>(came: Result<u32, E>) -> u64
     ensures { MatchResult came (λ place. result ≡ packed (told 0 place)) (λ refusal. (answer : Answer) × E.converts refusal answer × (result ≡ packed answer)) }
 {
-    let answer = match came {
+    in_one(match came {
         Ok(place) => slave::answers::done(place),
         Err(refusal) => refusal.into(),
-    };
-    u64::from(answer.number) + 4294967296 * u64::from(answer.place)
+    })
 }
 
 // The release of this archive, which the header has too: it goes up where a host with the old header would lend or read otherwise.
@@ -37,11 +43,10 @@ pub extern "C" fn t24_version() -> u64
 
 // The verdict on a sheet: 0, or a fault with its place.
 #[unsafe(no_mangle)]
-#[tactic(auto, unfolding(slave::specs::Answers::sheet_answer))]
 pub extern "C" fn t24_sheet(sheet: &[u8]) -> u64
     ensures { result ≡ packed (sheet_answer (verdict_of sheet.now)) }
 {
-    pack(sheet::walk::check(sheet).map(|_| 0).map_err(Refusal::Sheet))
+    in_one(slave::answers::sheet_answer(sheet::walk::check(sheet)))
 }
 
 // The lengths that a host lends by a valid sheet: L + 2^32 × memory length; 0 for a refused one.

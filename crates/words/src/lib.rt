@@ -22,6 +22,23 @@ impl fmt::Display for Octets {
     }
 }
 
+// A command's name, as document 01 has it.
+fn name(code: Code) -> &'static str {
+    match code {
+        Code::Nop => "NOP",
+        Code::PrmRd => "PRM_RD",
+        Code::PrmWr => "PRM_WR",
+        Code::IdRd => "ID_RD",
+        Code::AlmRd => "ALM_RD",
+        Code::AlmClr => "ALM_CLR",
+        Code::SyncSet => "SYNC_SET",
+        Code::Connect => "CONNECT",
+        Code::Disconnect => "DISCONNECT",
+        Code::MemRd => "MEM_RD",
+        Code::MemWr => "MEM_WR",
+    }
+}
+
 // The span of a memory command, by the number that the octet has: the element in its mode's high half (docs/DECISIONS.md, 1); a mode that names none is shown as it stands.
 #[derive(Clone, Copy)]
 struct Span {
@@ -74,7 +91,7 @@ struct Known {
 
 impl fmt::Display for Known {
     fn fmt<W: fmt::Write>(&self, f: &mut fmt::Formatter<W>) -> fmt::Result {
-        let code = self.code;
+        let name = name(self.code);
         let c = self.fields;
         let span = Span {
             mode: c.mode,
@@ -84,29 +101,29 @@ impl fmt::Display for Known {
             form: self.form,
             fields: c,
         };
-        match code {
+        match self.code {
             Code::PrmRd | Code::PrmWr => {
                 write!(
                     f,
-                    "{code} number {}, {}",
+                    "{name} number {}, {}",
                     c.number,
                     Octets(u64::from(c.size))
                 )
             }
             Code::IdRd => write!(
                 f,
-                "{code} item {:02X}, offset {}, {}",
+                "{name} item {:02X}, offset {}, {}",
                 c.item,
                 c.offset,
                 Octets(u64::from(c.count))
             ),
-            Code::AlmRd | Code::AlmClr => write!(f, "{code} mode {}", c.alarm_mode),
-            Code::Connect => write!(f, "{code} {connection}"),
+            Code::AlmRd | Code::AlmClr => write!(f, "{name} mode {}", c.alarm_mode),
+            Code::Connect => write!(f, "{name} {connection}"),
             Code::MemRd | Code::MemWr if self.length < 12 => {
-                write!(f, "{code} without an address, {span}")
+                write!(f, "{name} without an address, {span}")
             }
-            Code::MemRd | Code::MemWr => write!(f, "{code} address {:08X}, {span}", c.address),
-            Code::Nop | Code::SyncSet | Code::Disconnect => write!(f, "{code}"),
+            Code::MemRd | Code::MemWr => write!(f, "{name} address {:08X}, {span}", c.address),
+            Code::Nop | Code::SyncSet | Code::Disconnect => write!(f, "{name}"),
         }
     }
 }

@@ -53,6 +53,7 @@ returns-in-Some c =
     let d = a.checked.now.device in
     let l = c.loop-reader in
     let p = l.invariant.3 in
+    let h = handed (goal.at.returns-in-Some c).After-reply-theirs in
     let o = c.one.new in
     let e = c.in-Some.ensures in
     let q = one_more (length a.trace.now) l.reader.at p.m (record_size d.layout.l) p.left c.loop-reader-test.true in
@@ -60,7 +61,7 @@ returns-in-Some c =
     ∙ sym
     (p.told
     ∙ play_differs d.sheet.now a.trace.now d.layout.l l.k l.reader.at l.state l.memory (stepped c.in-Some.octet o.state o.memory) q.1
-    (handed (goal.at.returns-in-Some c).After-reply-theirs) (ap (λ (y : Performed). y.step) e.leaves) e.differs)
+    h.sent h.came (ap (λ (y : Performed). y.step) e.leaves) e.differs)
 
 pub loop-reader-preserved : goal.loop-reader-preserved
 loop-reader-preserved c =
@@ -86,7 +87,7 @@ loop-reader-preserved c =
         m = q.0;
         left = omega (arith, q.2, p.of_sheet);
         told = p.told
-            ∙ play_agrees d.sheet.now a.trace.now d.layout.l l.k l.reader.at l.state l.memory (stepped d.layout.l o.new.state o.new.memory) q.1 h step (le_refl d.layout.l)
+            ∙ play_agrees d.sheet.now a.trace.now d.layout.l l.k l.reader.at l.state l.memory (stepped d.layout.l o.new.state o.new.memory) q.1 h.sent h.came step (le_refl d.layout.l)
             (ap (λ (n : ℕ). l.reader.at + record_size n) p.of_sheet);
       }),
     )

@@ -20,9 +20,7 @@ head-requires c =
 pub fill_body-requires : goal.fill_body-requires
 fill_body-requires c =
     let d = c.args.checked.now in
-    let p = c.requires in
-    let l = c.head.auto.reply ∙ p.lent in
-    (p.asked ∙ sym l, lent_fits d.device.sheet.now _ _ _ d.device.layout c.args.st d.valid (record { whole = p.whole; asked = p.asked; lent = l }) _ _ _ c.outcome-outcome.ensures)
+    lent_fits d.device.sheet.now _ _ _ d.device.layout c.args.st d.valid c.requires _ _ _ _ c.outcome-outcome.ensures c.head.auto.reply
 
 pub returns-clause-reply : goal.returns-clause-reply
 returns-clause-reply c =

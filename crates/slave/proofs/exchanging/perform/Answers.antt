@@ -41,10 +41,11 @@ returns-then-at-wanted c =
 
 pub store-requires : goal.store-requires
 store-requires c =
-    let d = c.args.checked.now in
+    let a = c.args in
+    let d = a.checked.now in
     let p = c.requires.ready.lists in
-    let f = lent_fits _ _ c.args.command.now _ _ c.args.st d.valid (record { whole = p.whole; asked = p.asked; lent = p.asked }) _ _ _ c.build-outcome.ensures.outcome in
-    fits_stored d.device.layout.form (length c.args.command.now) (length c.args.memory.now) (length d.device.sheet.now) c.build-outcome.result.effect f
+    let f = lent_fits _ _ _ _ _ a.st d.valid p _ _ _ a.command.now c.build-outcome.ensures.outcome (p.asked ∙ sym p.lent) in
+    fits_stored d.device.layout.form (length a.command.now) (length a.memory.now) (length d.device.sheet.now) c.build-outcome.result.effect f.1
 
 pub returns : goal.returns
 unfolding stepped_of exchanged
