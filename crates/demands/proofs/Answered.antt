@@ -15,7 +15,6 @@ use Rattle.octets.specs.Pick.{pick}
 use Rattle.sheet.specs.Faults.{number_of}
 use Rattle.sheet.specs.declared.records.Fault.{Fault as SheetFault}
 use Rattle.sheet.specs.declared.records.Fault.TheVariants.{Ended, Unknown as UnknownRecord, Misplaced, Range, Disorder, Excess, Unmapped}
-use Rattle.sheet.specs.declared.records.Flaw.{Flaw}
 use Rattle.slave.specs.Answers.{told, refusal_answer, answered, answered_at}
 use Rattle.slave.specs.declared.answers.Answer.{Answer}
 use Rattle.slave.specs.declared.answers.Refusal.{Refusal}
